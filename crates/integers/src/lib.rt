@@ -1,0 +1,1 @@
+// Laws of integers, in specs/; no code.

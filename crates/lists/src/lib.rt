@@ -1,0 +1,1 @@
+// Laws of lists, in specs/; no code.

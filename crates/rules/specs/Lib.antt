@@ -1,0 +1,17 @@
+pub mod Limits
+pub mod Threads
+pub mod Table
+pub mod Completion
+pub mod Leaving
+pub mod Arrival
+pub mod Drop
+pub mod Fitting
+pub mod Choice
+pub mod Charge
+pub mod Step
+pub mod Run
+pub mod Calls
+pub mod History
+pub mod Records
+pub mod Reading
+pub mod Listing
