@@ -1,3 +1,12 @@
 pub mod Cases
 pub mod Deadlines
 pub mod Good
+pub mod Shares
+pub mod Claim
+pub mod Row
+pub mod Deficit
+pub mod Keep
+pub mod Tick
+pub mod Events
+pub mod Begin
+pub mod Always

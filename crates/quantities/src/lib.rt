@@ -48,13 +48,19 @@ pub struct Table {
 // The limits are fixed here, with the table that they bound.
 impl Table {
     pub const MAX_Q: u16 = 4096;
+
     pub const MAX_THREADS: usize = 64;
+
     pub const MAX_APP: u16 = 15;
+
     pub const APPS: usize = 16;
+
     pub const MAX_PERIOD: u32 = 65536;
     // what period 0 in a row stands for
     pub const USUAL_PERIOD: u32 = 100;
+
     pub const MAX_JOBS: u32 = 65535;
+
     pub const CLOCK_END: Moment = Moment(2147483647);
     // the number of no thread
     pub const NOBODY: usize = Table::MAX_THREADS;

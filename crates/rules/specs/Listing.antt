@@ -47,12 +47,12 @@ heading = bytes "tick thread app deadline virtual\n"
 -- "Each line: tick, thread, application, E after fitting, W after the charge; an idle tick has four dashes."
 abbrev pub tickLineAs : Outcome → State → List ℕ
 tickLineAs (Grant i) s = line (
-  decimal (s .clock .0)
-  ∷ decimal i
-  ∷ decimal (at (ready s .threads) i .app)
-  ∷ signed (at (ready s .threads) i .e .0)
-  ∷ signed (at (stepped s .state .threads) i .w .0)
-  ∷ [])
+    decimal (s .clock .0)
+    ∷ decimal i
+    ∷ decimal (at (ready s .threads) i .app)
+    ∷ signed (at (ready s .threads) i .e .0)
+    ∷ signed (at (stepped s .state .threads) i .w .0)
+    ∷ [])
 tickLineAs Idle s = line (decimal (s .clock .0) ∷ bytes "-" ∷ bytes "-" ∷ bytes "-" ∷ bytes "-" ∷ [])
 tickLineAs (tick.Refused n) s = []
 

@@ -1,0 +1,288 @@
+-- Every given state is good, and a call on a given state gives a given state.
+use mathlib.Core.Path.{_≡_, refl, sym, ap, _∙_, subst}
+use mathlib.Core.Bool.{Bool, true, false, not, cond}
+use mathlib.Core.List.{List, [], _∷_, _++_}
+use Prim.Native.Nat.{ℕ, zero, suc, _+_, _-_, _≤_, _<_}
+use native.Mathlib.Omega.{arith}
+use borrow.Author.Tests.{eqb-false, eqb-true, ltb-true}
+use lib.Dec.{T, eqb, ltb}
+use lib.IntN.{pos}
+use lib.Signed.{ltZ}
+use lib.ListN.{length, take, set}
+use Rattle.lists.specs.MapTo.{mapTo, map-same}
+use Rattle.lists.specs.Sum.{sum-map}
+use Rattle.lists.specs.Take.{all-upd, at-upd}
+use Rattle.lists.specs.All.{All, all-at}
+use Rattle.rules.specs.Limits.{nobody, maxJobs, clockEnd}
+use Rattle.rules.specs.Threads.{Thread, State, blank, at, scaled, isNon, contends, freeShare, freeOf, earliest}
+use Rattle.rules.specs.Table.{Table, Done, Answered, done, refused, tableAnswer, start}
+use Rattle.rules.specs.Completion.{completion, afterCompletion}
+use Rattle.rules.specs.Leaving.{leave, gone}
+use Rattle.rules.specs.Arrival.{arrival, arrived}
+use Rattle.rules.specs.Drop.{headOnly, dropped}
+use Rattle.rules.specs.Fitting.{fitIn, fitted, roomOf}
+use Rattle.rules.specs.Choice.{chosen, idled}
+use Rattle.rules.specs.Charge.{charged, moved}
+use Rattle.rules.specs.Step.{Stepped, ready, taken, stepped}
+use Rattle.rules.specs.Run.{Ran, stateAfter, ran}
+use Rattle.rules.specs.Calls as calls
+use Rattle.rules.specs.Calls.{Call, apply, after, Given}
+use Rattle.promises.specs.Cases.{by-test, true-false}
+use Rattle.promises.specs.Deadlines.{earliest-in, earliest-first}
+use Rattle.promises.specs.Good.{Rows, Ahead, Leads, Good}
+use Rattle.promises.specs.Row.{Fits}
+use Rattle.promises.specs.Keep.{inside, fine-at, leave-rows, fit-rows, all-fit, fit-free}
+use Rattle.promises.specs.Tick.{Alike, leads-alike, Chosen, charge-rows, charge-alike, idle-rows}
+use Rattle.promises.specs.Events.{completing-rows, arrive-rows, arrive-left, drop-rows, head-alike, head-ahead}
+use Rattle.promises.specs.Begin.{start-good}
+
+-- ---- between the parts of a step
+-- what holds of a state whatever happened at its moment
+pub record Steady (s : State) : Type 0 where
+  pub time : s .clock .0 ≤ clockEnd
+  pub q-min : 1 ≤ s .q
+  pub q-max : s .q ≤ 4096
+  pub rows : Rows (s .count) (s .q) (s .clock .0) (s .threads)
+
+pub steady : {s : State} → Good s → Steady s
+steady g = record { time = g .time; q-min = g .q-min; q-max = g .q-max; rows = g .rows }
+
+-- leaving and fitting leave the numbers beside the threads
+pub record Beside (s z : State) : Type 0 where
+  pub count : z .count ≡ s .count
+  pub q : z .q ≡ s .q
+  pub clock : z .clock ≡ s .clock
+
+pub gone-beside : (s : State) → Beside s (gone s)
+unfolding gone
+gone-beside s = by-test (Beside s) (s .closed) (λ _. record { count = refl; q = refl; clock = refl }) (λ _. record { count = refl; q = refl; clock = refl })
+
+pub ready-beside : (s : State) → Beside s (ready s)
+unfolding fitted
+ready-beside s = let b = gone-beside s in record { count = b .count; q = b .q; clock = b .clock }
+
+-- once those that leave have left
+pub gone-good : {s : State} → Good s → Steady (gone s) × All (Ahead (gone s .clock .0)) (take (gone s .count) (gone s .threads))
+unfolding gone
+gone-good {s} g =
+    by-test (λ (z : State). Steady z × All (Ahead (z .clock .0)) (take (z .count) (z .threads))) (s .closed)
+    (λ c. (steady g, g .left c))
+    (λ _. let l = leave-rows (g .rows) in (record { time = g .time; q-min = g .q-min; q-max = g .q-max; rows = l .0 }, l .1))
+
+-- .. and once all contending threads fit
+pub record Ready (z : State) : Type 0 where
+  pub sound : Steady z
+  pub fit : (c : ℕ) → c < z .count → Fits (roomOf z (at (z .threads) c)) (at (z .threads) c)
+
+-- fitting changes no free share
+pub fitted-free : (a : ℕ) (s : State) → freeOf a (fitted s) ≡ freeOf a s
+unfolding fitted
+fitted-free a s = sum-map (freeShare a) (fitIn s) (λ x. fit-free a (roomOf s x) x) (s .count) (s .count) (s .threads)
+
+pub fitted-steady : {s : State} → Steady s → Steady (fitted s)
+unfolding fitted
+fitted-steady {s} g = record { time = g .time; q-min = g .q-min; q-max = g .q-max; rows = fit-rows (λ a. freeOf a s) (g .rows) }
+
+fitted-fits : {s : State} → Steady s → (c : ℕ) → c < fitted s .count → Fits (fitted s .q - freeOf (at (fitted s .threads) c .app) s) (at (fitted s .threads) c)
+unfolding fitted
+fitted-fits {s} g c h = all-at (s .count) (fitted s .threads) c blank (all-fit (λ a. freeOf a s) (g .rows)) h (inside (fitted-steady g .rows) h)
+
+pub fitted-ready : {s : State} → Steady s → Ready (fitted s)
+fitted-ready {s} g = record {
+  sound = fitted-steady g;
+  fit = λ c h. subst (λ (r : ℕ). Fits (fitted s .q - r) (at (fitted s .threads) c)) (sym (fitted-free (at (fitted s .threads) c .app) s)) (fitted-fits g c h);
+}
+
+pub ready-ready : {s : State} → Good s → Ready (ready s)
+ready-ready g = fitted-ready (gone-good g .0)
+
+-- ---- the step
+-- who is chosen, if anybody is
+pub chosen-leads : {z : State} → Ready z → (chosen z ≡ nobody → ⊥) → Chosen z (chosen z)
+chosen-leads {z} y n =
+    let r = y .sound .rows in
+    let i = earliest-in contends (z .count) (z .threads) n in
+    record {
+      leads = record {
+        inside = i .0;
+        runs = i .1;
+        first = λ j h k. earliest-first contends (z .threads) (z .count) (r .few) (λ j h _. fine-at r j h .share-min) j h k .1;
+      };
+      fits = y .fit (chosen z) (i .0);
+    }
+
+-- where nobody is, none contends
+pub none-contends : {z : State} → Ready z → chosen z ≡ nobody → (j : ℕ) → j < z .count → T (contends (at (z .threads) j)) → ⊥
+none-contends {z} y e j h k = let r = y .sound .rows in earliest-first contends (z .threads) (z .count) (r .few) (λ j h _. fine-at r j h .share-min) j h k .0 e
+
+idle-good : {z : State} → Ready z → z .clock .0 < clockEnd → chosen z ≡ nobody → Good (moved (idled z) nobody)
+unfolding moved idled
+idle-good {z} y h e = let s = y .sound in record {
+  time = omega arith;
+  q-min = s .q-min;
+  q-max = s .q-max;
+  rows = idle-rows (s .rows) (none-contends y e);
+  head-start = λ _ _ k. absurd (no (s .rows .few) k);
+  left = λ c. absurd (true-false (sym c));
+}
+  where
+    no : z .count ≤ 64 → 64 < z .count → ⊥
+    no f k = omega arith
+
+grant-good : {z : State} → Ready z → z .clock .0 < clockEnd → (c : ℕ) → Chosen z c → Good (moved (charged z c) c)
+unfolding moved charged
+grant-good {z} y h c ch = let s = y .sound in record {
+  time = omega arith;
+  q-min = s .q-min;
+  q-max = s .q-max;
+  rows = charge-rows z c ch (s .rows);
+  head-start = λ _ _ _. leads-alike (charge-alike z c ch (s .rows)) (ch .leads);
+  left = λ c. absurd (true-false (sym c));
+}
+
+taken-good : {z : State} → Ready z → z .clock .0 < clockEnd → Good (taken z (chosen z) .state)
+taken-good {z} y h =
+    by-test (λ (r : Stepped). Good (r .state)) (eqb (chosen z) nobody)
+    (λ e. idle-good y h (eqb-true (chosen z) nobody e))
+    (λ e. grant-good y h (chosen z) (chosen-leads y (eqb-false (chosen z) nobody e)))
+
+-- a step that is not refused is taken before the clock's end
+pub before-end : {s : State} → Good s → (s .clock .0 ≡ clockEnd → ⊥) → ready s .clock .0 < clockEnd
+before-end {s} g n = rw (ready-beside s .clock) (let t = g .time in omega arith)
+
+pub step-good : {s : State} → Good s → Good (stepped s .state)
+unfolding stepped
+step-good {s} g =
+    by-test (λ (r : Stepped). Good (r .state)) (eqb (s .clock .0) clockEnd)
+    (λ _. g)
+    (λ e. taken-good (ready-ready g) (before-end g (eqb-false (s .clock .0) clockEnd e)))
+
+pub steps-good : (n : ℕ) {s : State} → Good s → Good (stateAfter n s)
+unfolding stateAfter
+steps-good zero g = g
+steps-good (suc n) g = step-good (steps-good n g)
+
+run-good : {s : State} (to : ℕ) (row : List ℕ) → Good s → Good (ran s to row .result .state)
+unfolding ran
+run-good {s} to row g =
+    by-test P (ltb to (s .clock .0)) (λ _. g)
+    (λ _. by-test P (ltb clockEnd to) (λ _. g)
+    (λ _. by-test P (ltb (length row) (to - s .clock .0)) (λ _. g) (λ _. steps-good (to - s .clock .0) g)))
+  where
+    P : Ran → Type 0
+    P r = Good (r .result .state)
+
+-- ---- the events
+abbrev GoodA : Answered → Type 0
+GoodA r = Good (r .state)
+
+-- leaving changes no number of jobs
+pub same-jobs : (s : State) (i : ℕ) → at (gone s .threads) i .jobs ≡ at (s .threads) i .jobs
+unfolding gone leave
+same-jobs s i = by-test (λ (z : State). at (z .threads) i .jobs ≡ at (s .threads) i .jobs) (s .closed) (λ _. refl) (λ _. map-same (λ (x : Thread). x .jobs) (leave (s .clock .0)) one (s .count) (s .threads) i blank)
+  where
+    one : (x : Thread) → leave (s .clock .0) x .jobs ≡ x .jobs
+    one x = by-test (λ (y : Thread). y .jobs ≡ x .jobs) (isNon (x .phase)) (λ _. by-test (λ (y : Thread). y .jobs ≡ x .jobs) (ltZ (scaled x (s .clock .0)) (x .w .0)) (λ _. refl) (λ _. refl)) (λ _. refl)
+
+arrived-good : {s : State} (i : ℕ) → Good s → i < s .count → at (s .threads) i .jobs < maxJobs → Good (arrived (gone s) i)
+arrived-good {s} i g h j =
+    let l = gone-good g in
+    let k : i < gone s .count = omega (arith, gone-beside s .count) in
+    record {
+      time = l .0 .time;
+      q-min = l .0 .q-min;
+      q-max = l .0 .q-max;
+      rows = arrive-rows (l .0 .rows) (l .1) i k (omega (arith, same-jobs s i));
+      head-start = λ c. absurd (true-false c);
+      left = λ _. arrive-left (l .0 .rows) (l .1) i k;
+    }
+
+arrival-good : {s : State} (i : ℕ) → Good s → Good (arrival s i .state)
+unfolding arrival
+arrival-good {s} i g =
+    by-test GoodA (ltb i (s .count))
+    (λ h. by-test GoodA (ltb (at (s .threads) i .jobs) maxJobs) (λ j. arrived-good i g (ltb-true i (s .count) h) (ltb-true _ _ j)) (λ _. g))
+    (λ _. g)
+
+completed-good : {s : State} → Good s → s .had < s .count → s .closed ≡ false → s .completed ≡ false → Good (afterCompletion s (s .had))
+unfolding afterCompletion
+completed-good {s} g h c d = record {
+  time = g .time;
+  q-min = g .q-min;
+  q-max = g .q-max;
+  rows = completing-rows (g .rows) (s .had) (g .head-start c d h);
+  head-start = λ _ d. absurd (true-false d);
+  left = λ e. absurd (true-false (sym e ∙ c));
+}
+
+completion-good : {s : State} (i : ℕ) → Good s → Good (completion s i .state)
+unfolding completion
+completion-good {s} i g =
+    by-test GoodA (ltb i (s .count))
+    (λ h. by-test GoodA (s .closed) (λ _. g)
+    (λ c. by-test GoodA (eqb i (s .had)) (λ e. by-test GoodA (s .completed) (λ _. g) (λ d. rw (eqb-true i (s .had) e) (completed-good g (rw (eqb-true i (s .had) e) at (ltb-true i (s .count) h)) c d))) (λ _. g)))
+    (λ _. g)
+
+drop-good : {s : State} (i : ℕ) → Good s → Good (dropped s i .state)
+unfolding dropped
+drop-good {s} i g = by-test GoodA (ltb i (s .count)) (λ h. into (ltb-true i (s .count) h)) (λ _. g)
+  where
+    alike : (j : ℕ) → Alike (at (s .threads) j) (at (set (s .threads) i (headOnly (at (s .threads) i))) j)
+    alike j = at-upd {P = Alike (at (s .threads) j)} headOnly (head-alike (at (s .threads) j)) (s .threads) i j blank (record { share-same = refl; phase-same = refl; e-same = refl })
+
+    into : i < s .count → GoodA (done (record { threads = set (s .threads) i (headOnly (at (s .threads) i)); count = s .count; had = s .had; q = s .q; clock = s .clock; completed = s .completed; closed = s .closed }))
+    into h = record {
+      time = g .time;
+      q-min = g .q-min;
+      q-max = g .q-max;
+      rows = drop-rows (g .rows) i h;
+      head-start = λ c d k. leads-alike alike (g .head-start c d k);
+      left = λ c. all-upd headOnly (head-ahead (s .clock .0)) (s .count) (s .threads) i blank (g .left c);
+    }
+
+-- ---- the calls
+pub apply-good : (c : Call) {s : State} → Good s → Good (apply s c)
+apply-good (calls.complete i) g = completion-good i g
+apply-good (calls.arrive i) g = arrival-good i g
+apply-good (calls.drop i) g = drop-good i g
+apply-good calls.step g = step-good g
+apply-good (calls.run to row) g = run-good to row g
+
+pub after-good : (cs : List Call) {s : State} → Good s → Good (after s cs)
+unfolding after
+after-good [] g = g
+after-good (c ∷ cs) g = after-good cs (apply-good c g)
+
+-- every given state is good
+pub given-good : {s : State} → Given s → Good s
+given-good g = rw (g .came) (after-good (g .calls) (start-good (g .usual) (g .table) (g .admitted)))
+
+-- ---- where a state comes from
+pub given-start : (usual : ℕ) (t : Table) → tableAnswer usual t ≡ Done → Given (start usual t)
+unfolding after
+given-start usual t e = record { usual = usual; table = t; admitted = e; calls = []; came = refl }
+
+pub after-more : (cs : List Call) (s : State) (c : Call) → after s (cs ++ (c ∷ [])) ≡ apply (after s cs) c
+unfolding after
+after-more [] s c = refl
+after-more (d ∷ cs) s c = after-more cs (apply s d) c
+
+-- a call on a given state gives a given state
+pub given-by : {s : State} → Given s → (c : Call) → Given (apply s c)
+given-by g c = record {
+  usual = g .usual;
+  table = g .table;
+  admitted = g .admitted;
+  calls = g .calls ++ (c ∷ []);
+  came = ap (λ s. apply s c) (g .came) ∙ sym (after-more (g .calls) (start (g .usual) (g .table)) c);
+}
+
+pub given-steps : (n : ℕ) {s : State} → Given s → Given (stateAfter n s)
+unfolding stateAfter
+given-steps zero g = g
+given-steps (suc n) g = given-by (given-steps n g) calls.step
+
+pub given-after : {s : State} → Given s → (cs : List Call) → Given (after s cs)
+unfolding after
+given-after g [] = g
+given-after g (c ∷ cs) = given-after (given-by g c) cs
