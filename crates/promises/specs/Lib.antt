@@ -10,3 +10,6 @@ pub mod Tick
 pub mod Events
 pub mod Begin
 pub mod Always
+pub mod Unchanged
+pub mod Grants
+pub mod Sizes

@@ -1,0 +1,86 @@
+-- Every granted tick of a history ends no later than the deadline that it was granted under.
+use mathlib.Core.Path.{_≡_, refl, sym, ap, ap₂, _∙_}
+use mathlib.Core.Bool.{Bool, true, false, cond}
+use mathlib.Core.List.{List, [], _∷_, _++_}
+use Prim.Native.Nat.{ℕ, zero, suc, _+_, _*_, _-_, _≤_, _<_}
+use native.Mathlib.Omega.{arith}
+use borrow.Author.Tests.{eqb-false}
+use lib.Dec.{eqb}
+use lib.IntN.{ℤ, pos}
+use lib.Signed.{_≤ℤ_}
+use Rattle.integers.specs.Parts.{up, dn, parts-le}
+use Rattle.lists.specs.All.{All, none, more, all-append}
+use Rattle.rules.specs.Limits.{nobody, clockEnd}
+use Rattle.rules.specs.Threads.{State, at}
+use Rattle.rules.specs.Table.{Answer, Done, Refused}
+use Rattle.rules.specs.Completion.{completion}
+use Rattle.rules.specs.Arrival.{arrival}
+use Rattle.rules.specs.Drop.{dropped}
+use Rattle.rules.specs.Choice.{chosen}
+use Rattle.rules.specs.Step.{Stepped, ready, stepped}
+use Rattle.rules.specs.Run.{stateAfter, ran}
+use Rattle.rules.specs.Calls as calls
+use Rattle.rules.specs.Calls.{Call, apply}
+use Rattle.rules.specs.History.{Happening, completed, arrived, dropped-to-head, granted, idle-tick, ifDone, tickAs, tickOf, ticksOf, runAs, happens, history}
+use Rattle.promises.specs.Cases.{by-test}
+use Rattle.promises.specs.Good.{Good}
+use Rattle.promises.specs.Keep.{fine-at}
+use Rattle.promises.specs.Tick.{Chosen, in-time}
+use Rattle.promises.specs.Unchanged.{SameTable, ready-same, steps-same, call-same, same-then}
+use Rattle.promises.specs.Always.{Ready, ready-ready, ready-beside, chosen-leads, step-good, steps-good, apply-good}
+
+-- u × (tick + 1) ≤ E of a granted tick, with u the share of its thread in s
+abbrev pub InTime : State → Happening → Type 0
+InTime s (completed i t) = Unit {0}
+InTime s (arrived i t) = Unit {0}
+InTime s (dropped-to-head i t) = Unit {0}
+InTime s (granted i t e) = pos (at (s .threads) i .share * (t + 1)) ≤ℤ e
+InTime s (idle-tick t) = Unit {0}
+
+-- the deadline of the thread that has the tick
+grant-in-time : {o s : State} → SameTable o s → Good s → (c : ℕ) → Chosen (ready s) c → pos (at (o .threads) c .share * (s .clock .0 + 1)) ≤ℤ at (ready s .threads) c .e .0
+grant-in-time {o} {s} k g c ch =
+    let z = ready s in
+    let y = ready-ready g in
+    let r = y .sound .rows in
+    let h = in-time z c ch r in
+    let w = fine-at r c (ch .leads .inside) .e-whole in
+    let e : at (o .threads) c .share * (s .clock .0 + 1) ≡ at (z .threads) c .share * (z .clock .0 + 1) =
+    ap₂ (λ (u t : ℕ). u * (t + 1)) (sym (same-then k (ready-same s) .row c .1)) (sym (ap (λ m. m .0) (ready-beside s .clock))) in
+    parts-le _ _ (omega (arith, e, h, w))
+
+tick-in-time : {o s : State} → SameTable o s → Good s → All (InTime o) (tickOf s)
+unfolding tickOf stepped
+tick-in-time {o} {s} k g =
+    by-test P (eqb (s .clock .0) clockEnd) (λ _. none)
+    (λ _. by-test P (eqb (chosen (ready s)) nobody) (λ _. more tt none)
+    (λ e. more (grant-in-time k g (chosen (ready s)) (chosen-leads (ready-ready g) (eqb-false (chosen (ready s)) nobody e))) none))
+  where
+    P : Stepped → Type 0
+    P r = All (InTime o) (tickAs (r .outcome) s)
+
+ticks-in-time : (n : ℕ) {o s : State} → SameTable o s → Good s → All (InTime o) (ticksOf n s)
+unfolding ticksOf
+ticks-in-time zero k g = none
+ticks-in-time (suc n) {o} {s} k g = all-append (ticks-in-time n k g) (tick-in-time (same-then k (steps-same n s)) (steps-good n g))
+
+-- what is no tick
+event-in-time : (o : State) (a : Answer) (h : Happening) → InTime o h → All (InTime o) (ifDone a h)
+event-in-time o Done h p = more p none
+event-in-time o (Refused n) h p = none
+
+run-in-time : (a : Answer) (n : ℕ) {o s : State} → SameTable o s → Good s → All (InTime o) (runAs a n s)
+run-in-time Done n k g = ticks-in-time n k g
+run-in-time (Refused m) n k g = none
+
+call-in-time : (c : Call) {o s : State} → SameTable o s → Good s → All (InTime o) (happens s c)
+call-in-time (calls.complete i) {o} {s} k g = event-in-time o (completion s i .answer) (completed i (s .clock .0)) tt
+call-in-time (calls.arrive i) {o} {s} k g = event-in-time o (arrival s i .answer) (arrived i (s .clock .0)) tt
+call-in-time (calls.drop i) {o} {s} k g = event-in-time o (dropped s i .answer) (dropped-to-head i (s .clock .0)) tt
+call-in-time calls.step k g = tick-in-time k g
+call-in-time (calls.run to row) {o} {s} k g = run-in-time (ran s to row .result .answer) (to - s .clock .0) k g
+
+pub history-in-time : (cs : List Call) {o s : State} → SameTable o s → Good s → All (InTime o) (history s cs)
+unfolding history
+history-in-time [] k g = none
+history-in-time (c ∷ cs) {o} {s} k g = all-append (call-in-time c k g) (history-in-time cs (same-then k (call-same c s)) (apply-good c g))
