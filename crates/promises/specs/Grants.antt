@@ -27,7 +27,8 @@ use Rattle.promises.specs.Good.{Good}
 use Rattle.promises.specs.Keep.{fine-at}
 use Rattle.promises.specs.Tick.{Chosen, in-time}
 use Rattle.promises.specs.Unchanged.{SameTable, ready-same, steps-same, call-same, same-then}
-use Rattle.promises.specs.Always.{Ready, ready-ready, ready-beside, chosen-leads, step-good, steps-good, apply-good}
+use Rattle.promises.specs.Ready.{Ready, ready-ready, ready-beside, chosen-leads}
+use Rattle.promises.specs.Always.{steps-good, apply-good}
 
 -- u × (tick + 1) ≤ E of a granted tick, with u the share of its thread in s
 abbrev pub InTime : State → Happening → Type 0

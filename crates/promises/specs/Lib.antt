@@ -9,7 +9,11 @@ pub mod Keep
 pub mod Tick
 pub mod Events
 pub mod Begin
+pub mod Ready
 pub mod Always
 pub mod Unchanged
 pub mod Grants
 pub mod Sizes
+pub mod Jobs
+pub mod Books
+pub mod Ledger

@@ -12,7 +12,8 @@ use Rattle.rules.specs.Calls.{Given}
 use Rattle.promises.specs.Good.{deficit, Rows}
 use Rattle.promises.specs.Deficit.{below}
 use Rattle.promises.specs.Keep.{inside, fine-at}
-use Rattle.promises.specs.Always.{Steady, steady, given-good}
+use Rattle.promises.specs.Ready.{Steady, steady}
+use Rattle.promises.specs.Always.{given-good}
 
 -- −Q × t ≤ W ≤ Q × t and 0 ≤ E ≤ Q × t + Q + u × P, and so in bits
 pub record Sized (q t : ℕ) (x : Thread) : Type 0 where
