@@ -27,7 +27,8 @@ use Rattle.promises.specs.Good.{Rows, Good}
 use Rattle.promises.specs.Keep.{inside, lose-at, benefits-at, benefits-length}
 use Rattle.promises.specs.Events.{freed-nat}
 use Rattle.promises.specs.Ready.{gone-beside, gone-good, ready-beside, ready-ready}
-use Rattle.promises.specs.Jobs.{OnTime, resting, Agrees, Close, Completes, lose-agrees, fit-agrees, idle-agrees, leave-agrees, gain-agrees, arrive-agrees}
+use Rattle.promises.specs.Demand3.{OnTime}
+use Rattle.promises.specs.Jobs.{resting, Agrees, Close, Completes, lose-agrees, fit-agrees, idle-agrees, leave-agrees, gain-agrees, arrive-agrees}
 
 -- g is the account of thread i, whose share is u and whose period is p
 pub record Books (q u p i : ℕ) (g : Account) (s : State) : Type 0 where

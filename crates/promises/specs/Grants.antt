@@ -23,65 +23,65 @@ use Rattle.rules.specs.Calls as calls
 use Rattle.rules.specs.Calls.{Call, apply}
 use Rattle.rules.specs.History.{Happening, completed, arrived, dropped-to-head, granted, idle-tick, ifDone, tickAs, tickOf, ticksOf, runAs, happens, history}
 use Rattle.promises.specs.Cases.{by-test}
+use Rattle.promises.specs.Demand3.{EndsInTime}
 use Rattle.promises.specs.Good.{Good}
 use Rattle.promises.specs.Keep.{fine-at}
 use Rattle.promises.specs.Tick.{Chosen, in-time}
-use Rattle.promises.specs.Unchanged.{SameTable, ready-same, steps-same, call-same, same-then}
+use Rattle.promises.specs.Unchanged.{SameTable, ready-same, steps-same, call-same}
 use Rattle.promises.specs.Ready.{Ready, ready-ready, ready-beside, chosen-leads}
 use Rattle.promises.specs.Always.{steps-good, apply-good}
 
--- u × (tick + 1) ≤ E of a granted tick, with u the share of its thread in s
-abbrev pub InTime : State → Happening → Type 0
-InTime s (completed i t) = Unit {0}
-InTime s (arrived i t) = Unit {0}
-InTime s (dropped-to-head i t) = Unit {0}
-InTime s (granted i t e) = pos (at (s .threads) i .share * (t + 1)) ≤ℤ e
-InTime s (idle-tick t) = Unit {0}
+-- u has the shares of the threads of s
+abbrev pub Shares : (ℕ → ℕ) → State → Type 0
+Shares u s = (i : ℕ) → i < s .count → at (s .threads) i .share ≡ u i
+
+shares-then : {u : ℕ → ℕ} {s z : State} → SameTable s z → Shares u s → Shares u z
+shares-then k h i l = k .row i .1 ∙ h i (omega (arith, k .count))
 
 -- the deadline of the thread that has the tick
-grant-in-time : {o s : State} → SameTable o s → Good s → (c : ℕ) → Chosen (ready s) c → pos (at (o .threads) c .share * (s .clock .0 + 1)) ≤ℤ at (ready s .threads) c .e .0
-grant-in-time {o} {s} k g c ch =
+grant-in-time : {u : ℕ → ℕ} {s : State} → Shares u s → Good s → (c : ℕ) → Chosen (ready s) c → pos (u c * (s .clock .0 + 1)) ≤ℤ at (ready s .threads) c .e .0
+grant-in-time {u} {s} k g c ch =
     let z = ready s in
-    let y = ready-ready g in
-    let r = y .sound .rows in
+    let r = ready-ready g .sound .rows in
     let h = in-time z c ch r in
     let w = fine-at r c (ch .leads .inside) .e-whole in
-    let e : at (o .threads) c .share * (s .clock .0 + 1) ≡ at (z .threads) c .share * (z .clock .0 + 1) =
-    ap₂ (λ (u t : ℕ). u * (t + 1)) (sym (same-then k (ready-same s) .row c .1)) (sym (ap (λ m. m .0) (ready-beside s .clock))) in
+    let e : u c * (s .clock .0 + 1) ≡ at (z .threads) c .share * (z .clock .0 + 1) =
+    ap₂ (λ (v t : ℕ). v * (t + 1)) (sym (shares-then (ready-same s) k c (ch .leads .inside))) (sym (ap (λ m. m .0) (ready-beside s .clock))) in
     parts-le _ _ (omega (arith, e, h, w))
 
-tick-in-time : {o s : State} → SameTable o s → Good s → All (InTime o) (tickOf s)
-unfolding tickOf stepped
-tick-in-time {o} {s} k g =
-    by-test P (eqb (s .clock .0) clockEnd) (λ _. none)
-    (λ _. by-test P (eqb (chosen (ready s)) nobody) (λ _. more tt none)
-    (λ e. more (grant-in-time k g (chosen (ready s)) (chosen-leads (ready-ready g) (eqb-false (chosen (ready s)) nobody e))) none))
-  where
-    P : Stepped → Type 0
-    P r = All (InTime o) (tickAs (r .outcome) s)
+module _ {u : ℕ → ℕ} where
+  tick-in-time : {s : State} → Shares u s → Good s → All (EndsInTime u) (tickOf s)
+  unfolding tickOf stepped
+  tick-in-time {s} k g =
+      by-test P (eqb (s .clock .0) clockEnd) (λ _. none)
+      (λ _. by-test P (eqb (chosen (ready s)) nobody) (λ _. more tt none)
+      (λ e. more (grant-in-time k g (chosen (ready s)) (chosen-leads (ready-ready g) (eqb-false (chosen (ready s)) nobody e))) none))
+    where
+      P : Stepped → Type 0
+      P r = All (EndsInTime u) (tickAs (r .outcome) s)
 
-ticks-in-time : (n : ℕ) {o s : State} → SameTable o s → Good s → All (InTime o) (ticksOf n s)
-unfolding ticksOf
-ticks-in-time zero k g = none
-ticks-in-time (suc n) {o} {s} k g = all-append (ticks-in-time n k g) (tick-in-time (same-then k (steps-same n s)) (steps-good n g))
+  ticks-in-time : (n : ℕ) {s : State} → Shares u s → Good s → All (EndsInTime u) (ticksOf n s)
+  unfolding ticksOf
+  ticks-in-time zero k g = none
+  ticks-in-time (suc n) {s} k g = all-append (ticks-in-time n k g) (tick-in-time (shares-then (steps-same n s) k) (steps-good n g))
 
--- what is no tick
-event-in-time : (o : State) (a : Answer) (h : Happening) → InTime o h → All (InTime o) (ifDone a h)
-event-in-time o Done h p = more p none
-event-in-time o (Refused n) h p = none
+  -- what is no tick
+  event-in-time : (a : Answer) (h : Happening) → EndsInTime u h → All (EndsInTime u) (ifDone a h)
+  event-in-time Done h p = more p none
+  event-in-time (Refused n) h p = none
 
-run-in-time : (a : Answer) (n : ℕ) {o s : State} → SameTable o s → Good s → All (InTime o) (runAs a n s)
-run-in-time Done n k g = ticks-in-time n k g
-run-in-time (Refused m) n k g = none
+  run-in-time : (a : Answer) (n : ℕ) {s : State} → Shares u s → Good s → All (EndsInTime u) (runAs a n s)
+  run-in-time Done n k g = ticks-in-time n k g
+  run-in-time (Refused m) n k g = none
 
-call-in-time : (c : Call) {o s : State} → SameTable o s → Good s → All (InTime o) (happens s c)
-call-in-time (calls.complete i) {o} {s} k g = event-in-time o (completion s i .answer) (completed i (s .clock .0)) tt
-call-in-time (calls.arrive i) {o} {s} k g = event-in-time o (arrival s i .answer) (arrived i (s .clock .0)) tt
-call-in-time (calls.drop i) {o} {s} k g = event-in-time o (dropped s i .answer) (dropped-to-head i (s .clock .0)) tt
-call-in-time calls.step k g = tick-in-time k g
-call-in-time (calls.run to row) {o} {s} k g = run-in-time (ran s to row .result .answer) (to - s .clock .0) k g
+  call-in-time : (c : Call) {s : State} → Shares u s → Good s → All (EndsInTime u) (happens s c)
+  call-in-time (calls.complete i) {s} k g = event-in-time (completion s i .answer) (completed i (s .clock .0)) tt
+  call-in-time (calls.arrive i) {s} k g = event-in-time (arrival s i .answer) (arrived i (s .clock .0)) tt
+  call-in-time (calls.drop i) {s} k g = event-in-time (dropped s i .answer) (dropped-to-head i (s .clock .0)) tt
+  call-in-time calls.step k g = tick-in-time k g
+  call-in-time (calls.run to row) {s} k g = run-in-time (ran s to row .result .answer) (to - s .clock .0) k g
 
-pub history-in-time : (cs : List Call) {o s : State} → SameTable o s → Good s → All (InTime o) (history s cs)
-unfolding history
-history-in-time [] k g = none
-history-in-time (c ∷ cs) {o} {s} k g = all-append (call-in-time c k g) (history-in-time cs (same-then k (call-same c s)) (apply-good c g))
+  pub history-in-time : (cs : List Call) {s : State} → Shares u s → Good s → All (EndsInTime u) (history s cs)
+  unfolding history
+  history-in-time [] k g = none
+  history-in-time (c ∷ cs) {s} k g = all-append (call-in-time c k g) (history-in-time cs (shares-then (call-same c s) k) (apply-good c g))

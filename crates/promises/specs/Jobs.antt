@@ -20,12 +20,9 @@ use Rattle.rules.specs.Arrival.{arriveAs, arrive}
 use Rattle.rules.specs.Drop.{headOnly}
 use Rattle.rules.specs.Fitting.{postpone, fit}
 use Rattle.rules.specs.Charge.{gains}
-use Rattle.rules.specs.History.{Job, Finished, Account, begins, figureOf, longer, completeHead, withWaiting}
+use Rattle.rules.specs.History.{Job, Account, begins, figureOf, longer, completeHead, withWaiting}
 use Rattle.promises.specs.Cases.{by-test, true-T}
-
--- "Demand 3 says u × completion is less than that figure plus u × P."
-abbrev pub OnTime : ℕ → ℕ → Finished → Type 0
-OnTime u p f = u * f .completion < f .figure + u * p
+use Rattle.promises.specs.Demand3.{OnTime}
 
 -- w is at most the figure of the job completed last, and there is one
 abbrev pub Within : ℤ → Option ℕ → Type 0

@@ -28,7 +28,8 @@ use Rattle.promises.specs.Keep.{inside, fine-at}
 use Rattle.promises.specs.Ready.{gone-beside, ready-ready, chosen-leads, none-contends}
 use Rattle.promises.specs.Always.{steps-good, apply-good}
 use Rattle.promises.specs.Books.{Books, Standing, gone-standing, ready-standing, same-finished, idle-books, grant-books, arrived-books, completing-agrees}
-use Rattle.promises.specs.Jobs.{OnTime, Agrees, Close, Completes, drop-agrees, drop-close, completes}
+use Rattle.promises.specs.Demand3.{OnTime}
+use Rattle.promises.specs.Jobs.{Agrees, Close, Completes, drop-agrees, drop-close, completes}
 
 -- ---- the calls, but for a run
 module _ {q u p i : ℕ} {g : Account} {s : State} (good : Good s) (b : Books q u p i g s) where
@@ -119,14 +120,14 @@ module _ {q u p i : ℕ} {g : Account} {s : State} (good : Good s) (b : Books q 
       }
 
 -- the account goes on from where it was
-account-append : (q u i : ℕ) (g : Account) (hs ks : List Happening) → account q u i g (hs ++ ks) ≡ account q u i (account q u i g hs) ks
+pub account-append : (q u i : ℕ) (g : Account) (hs ks : List Happening) → account q u i g (hs ++ ks) ≡ account q u i (account q u i g hs) ks
 unfolding account
 account-append q u i g [] ks = refl
 account-append q u i g (h ∷ hs) ks = account-append q u i (accountOf q u i g h) hs ks
 
 -- ---- every call, and every sequence of calls
 module _ {q u p i : ℕ} where
-  ticks-books : (k : ℕ) {g : Account} {s : State} → Good s → Books q u p i g s → Books q u p i (account q u i g (ticksOf k s)) (stateAfter k s)
+  pub ticks-books : (k : ℕ) {g : Account} {s : State} → Good s → Books q u p i g s → Books q u p i (account q u i g (ticksOf k s)) (stateAfter k s)
   unfolding stateAfter ticksOf account
   ticks-books zero good b = b
   ticks-books (suc k) {g} {s} good b = rw (account-append q u i g (ticksOf k s) (tickOf (stateAfter k s))) (tick-books (steps-good k good) (ticks-books k good b))

@@ -1,3 +1,4 @@
+pub mod Demand3
 pub mod Cases
 pub mod Deadlines
 pub mod Good
@@ -12,8 +13,10 @@ pub mod Begin
 pub mod Ready
 pub mod Always
 pub mod Unchanged
-pub mod Grants
 pub mod Sizes
+pub mod Grants
 pub mod Jobs
 pub mod Books
 pub mod Ledger
+pub mod Counted
+pub mod Proved

@@ -61,6 +61,10 @@ module _ (q t : ℕ) (x : Thread) (f : Fine q t x) where
   has-job-as Contending s c = s
   has-job-as NonContending s c = absurd c
 
+  -- .. and one that contends has one
+  pub has-job : T (contends x) → 1 ≤ x .jobs
+  has-job = has-job-as (x .phase) (f .shape)
+
   -- ---- leaving, and an idle tick
   pub fine-idle : (T (contends x) → ⊥) → Fine q t (idle x)
   fine-idle n = fine-as Inactive (pos 0) (pos 0) (x .jobs) (f .jobs-max) (jobless n, refl, refl) (omega arith) (λ c. absurd c) refl (omega arith) (omega arith)

@@ -2,7 +2,6 @@
 // the rules.
 use quantities::Moment;
 use quantities::Table;
-
 ghost use mathlib.Core.Path.{_≡_};
 ghost use Rattle.rules.specs.Limits.{maxQ, maxThreads, maxApp, apps, maxPeriod, usualPeriod, maxJobs, clockEnd, nobody, idleEntry};
 

@@ -122,3 +122,22 @@ accountOf q u i g (idle-tick t) = g
 unfoldable pub account : ℕ → ℕ → ℕ → Account → List Happening → Account
 account q u i g [] = g
 account q u i g (h ∷ hs) = account q u i (accountOf q u i g h) hs
+
+-- ---- what a history has of thread i
+-- the moments at which it completed a job, in order
+unfoldable pub completionsOf : ℕ → List Happening → List ℕ
+completionsOf i [] = []
+completionsOf i (completed k t ∷ hs) = cond (eqb k i) (t ∷ completionsOf i hs) (completionsOf i hs)
+completionsOf i (arrived k t ∷ hs) = completionsOf i hs
+completionsOf i (dropped-to-head k t ∷ hs) = completionsOf i hs
+completionsOf i (granted k t e ∷ hs) = completionsOf i hs
+completionsOf i (idle-tick t ∷ hs) = completionsOf i hs
+
+-- how many ticks it was granted
+unfoldable pub grantsTo : ℕ → List Happening → ℕ
+grantsTo i [] = 0
+grantsTo i (completed k t ∷ hs) = grantsTo i hs
+grantsTo i (arrived k t ∷ hs) = grantsTo i hs
+grantsTo i (dropped-to-head k t ∷ hs) = grantsTo i hs
+grantsTo i (granted k t e ∷ hs) = cond (eqb k i) 1 0 + grantsTo i hs
+grantsTo i (idle-tick t ∷ hs) = grantsTo i hs
