@@ -20,3 +20,6 @@ pub mod Books
 pub mod Ledger
 pub mod Counted
 pub mod Proved
+pub mod Sound
+pub mod Tables
+pub mod Taken

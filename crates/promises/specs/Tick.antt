@@ -54,7 +54,7 @@ unfolding sumBy
 clock-claims t k n h [] = omega arith
 clock-claims t k n h (x ∷ xs) = omega (arith, claim-clock t k n x h, clock-claims t k n h xs)
 
-clock-debts : {m q t : ℕ} {xs : List Thread} → Rows m q t xs → sumBy (deficit (t + 1)) (take m xs) + sumBy idleShare (take m xs) ≤ q * (t + 1)
+pub clock-debts : {m q t : ℕ} {xs : List Thread} → Rows m q t xs → sumBy (deficit (t + 1)) (take m xs) + sumBy idleShare (take m xs) ≤ q * (t + 1)
 clock-debts {m} {q} {t} {xs} r =
     omega (
       arith,

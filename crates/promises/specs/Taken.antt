@@ -1,0 +1,99 @@
+-- What the step knows once it has chosen, and what a run knows at each of its ticks.
+use mathlib.Core.Path.{_≡_, refl, sym, ap, _∙_, subst}
+use mathlib.Core.Bool.{Bool, true, false, cond}
+use mathlib.Core.List.{List, [], _∷_, _++_}
+use Prim.Native.Nat.{ℕ, zero, suc, _+_, _-_, _≤_, _<_}
+use native.Mathlib.Omega.{arith}
+use borrow.Author.Tests.{eq-eqb, ne-eqb, eqb-false, eqb-true}
+use lib.Dec.{eqb}
+use lib.ListN.{length, length-append}
+use Rattle.rules.specs.Limits.{nobody, clockEnd, idleEntry}
+use Rattle.rules.specs.Threads.{State, freeOf, contends}
+use Rattle.rules.specs.Leaving.{gone}
+use Rattle.rules.specs.Fitting.{fitted}
+use Rattle.rules.specs.Choice.{chosen, idled}
+use Rattle.rules.specs.Charge.{charged, moved}
+use Rattle.rules.specs.Step.{Outcome, Grant, Idle, Stepped, ready, taken, stepped}
+use Rattle.rules.specs.Run.{entryOf, stateAfter, rowAfter}
+use Rattle.promises.specs.Cases.{by-test}
+use Rattle.promises.specs.Good.{Good}
+use Rattle.promises.specs.Ready.{Steady, Ready, gone-good, ready-ready, fitted-free, before-end, chosen-leads}
+use Rattle.promises.specs.Tables.{Table16}
+
+-- the answer and the entry of a tick, by who had it
+abbrev pub outcomeTo : ℕ → Outcome
+outcomeTo b = cond (eqb b nobody) Idle (Grant b)
+
+abbrev pub entryTo : ℕ → ℕ
+entryTo b = cond (eqb b nobody) idleEntry b
+
+pub entry-to : (b : ℕ) → entryOf (outcomeTo b) ≡ entryTo b
+entry-to b = go (eqb b nobody)
+  where
+    go : (c : Bool) → entryOf (cond c Idle (Grant b)) ≡ cond c idleEntry b
+    go true = refl
+    go false = refl
+
+-- the whole answer by the state after the tick, in which who had it stands
+abbrev pub By : State → Stepped
+By z = record { outcome = outcomeTo (z .had); state = z }
+
+taken-by : (z : State) (b : ℕ) → taken z b ≡ By (taken z b .state)
+unfolding moved
+taken-by z b = go (eqb b nobody) refl
+  where
+    tick : Bool → Stepped
+    tick c = cond c (record { outcome = Idle; state = moved (idled z) nobody }) (record { outcome = Grant b; state = moved (charged z b) b })
+
+    go : (c : Bool) → eqb b nobody ≡ c → tick c ≡ By (tick c .state)
+    go true e = refl
+    go false e = rw e
+
+module _ (s : State) (early : s .clock .0 ≡ clockEnd → ⊥) where
+  pub step-is : stepped s ≡ taken (ready s) (chosen (ready s))
+  unfolding stepped
+  step-is = rw (ne-eqb _ _ early)
+
+  pub step-by : stepped s ≡ By (stepped s .state)
+  step-by = subst (λ (r : Stepped). r ≡ By (r .state)) (sym step-is) (taken-by (ready s) (chosen (ready s)))
+
+-- ---- from the choice on
+pub record Chose (s l z : State) (b : ℕ) : Type 0 where
+  pub good : Good s
+  pub early : s .clock .0 ≡ clockEnd → ⊥
+  pub left : l ≡ gone s
+  pub fit : z ≡ fitted l
+  pub best : b ≡ chosen z
+
+module _ {s l z : State} {b : ℕ} (c : Chose s l z b) where
+  pub z-ready : Ready z
+  z-ready = rw (c .fit, c .left) (ready-ready (c .good))
+
+  pub z-steady : Steady z
+  z-steady = z-ready .sound
+
+  pub z-time : z .clock .0 < clockEnd
+  z-time = rw (c .fit, c .left) (before-end (c .good) (c .early))
+
+  pub z-free : (f : List ℕ) → Table16 (λ a. freeOf a l) f → Table16 (λ a. freeOf a z) f
+  z-free f t a h = t a h ∙ sym (ap (λ z. freeOf a z) (c .fit) ∙ fitted-free a l)
+
+  pub b-in : (b ≡ nobody → ⊥) → b < z .count
+  b-in f = rw (c .best) (chosen-leads z-ready (λ e. f (c .best ∙ e)) .leads .inside)
+
+  pub is-idle : b ≡ nobody → (x : State) → x ≡ moved (idled z) nobody → x ≡ stepped s .state
+  is-idle e x h = rw (step-is s (c .early), ← c .left, ← c .fit, ← c .best, eq-eqb _ _ e, h)
+
+  pub is-grant : (b ≡ nobody → ⊥) → (x : State) → x ≡ moved (charged z b) b → x ≡ stepped s .state
+  is-grant f x h = rw (step-is s (c .early), ← c .left, ← c .fit, ← c .best, ne-eqb _ _ f, h)
+
+-- who had a tick is a thread or nobody
+pub had-max : {s : State} → Good s → (s .clock .0 ≡ clockEnd → ⊥) → stepped s .state .had ≤ nobody
+unfolding moved
+had-max {s} g e = rw (step-is s e) (by-test (λ (r : Stepped). r .state .had ≤ nobody) (eqb (chosen (ready s)) nobody) (λ _. omega arith) (λ f. let y = ready-ready g in let h = chosen-leads y (eqb-false (chosen (ready s)) nobody f) .leads .inside in let k = y .sound .rows .few in omega arith))
+
+-- ---- a run
+pub row-length : (n : ℕ) (s : State) → length (rowAfter n s) ≡ n
+unfolding rowAfter
+row-length zero s = refl
+row-length (suc n) s = let r = row-length n s in rw length-append (omega arith)

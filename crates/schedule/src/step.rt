@@ -1,0 +1,118 @@
+// One tick, and a run of ticks into a lent row.
+ghost use mathlib.Core.Path.{_≡_};
+ghost use Prim.Native.Nat.{_≤_};
+ghost use Rattle.rules.specs.Limits.{nobody, clockEnd};
+ghost use Rattle.rules.specs.Step.{stepped};
+ghost use Rattle.rules.specs.Run.{ran};
+ghost use Rattle.rules.specs.Calls.{Given};
+ghost use Rattle.promises.specs.Taken.{entryTo, outcomeTo};
+use crate::passes::beneficiaries;
+use crate::passes::charge;
+use crate::passes::choose;
+use crate::passes::fitting;
+use crate::passes::free_table;
+use crate::passes::idle_tick;
+use crate::passes::leaving;
+use quantities::Answer;
+use quantities::Answered;
+use quantities::Moment;
+use quantities::Outcome;
+use quantities::State;
+use quantities::Stepped;
+use quantities::Table;
+
+// The state after one tick before the clock's end; who had it stands in the state.
+fn tick(s: State) -> State
+    requires { ⌜ Given s × (s .clock .0 ≡ clockEnd → ⊥) ⌝ }
+    ensures { λ r. ⌜ r ≡ stepped s .state ⌝ }
+{
+    let l = leaving(s);
+    let free = free_table(l);
+    let z = fitting(l, free);
+    let b = choose(z);
+    if b == Table::NOBODY {
+        return idle_tick(z);
+    }
+    let best = beneficiaries(z);
+    charge(z, b, free, best)
+}
+
+// The answer of a tick that `had` had.
+fn outcome_to(had: usize) -> Outcome
+    requires { ⌜ had ≤ nobody ⌝ }
+    ensures { λ r. ⌜ r ≡ outcomeTo had ⌝ }
+{
+    if had == Table::NOBODY {
+        return Outcome::Idle;
+    }
+    Outcome::Grant(had as u16)
+}
+
+// The entry of a tick that `had` had.
+fn entry_to(had: usize) -> u16
+    requires { ⌜ had ≤ nobody ⌝ }
+    ensures { λ r. ⌜ r ≡ entryTo had ⌝ }
+{
+    if had == Table::NOBODY {
+        return Table::IDLE;
+    }
+    had as u16
+}
+
+// One tick: who has it, and the state after it; 13 at the clock's end.
+pub fn step(s: State) -> Stepped
+    requires { ⌜ Given s ⌝ }
+    ensures { λ r. ⌜ r ≡ stepped s ⌝ }
+{
+    let end = Table::CLOCK_END;
+    if s.clock.0 == end.0 {
+        return Stepped {
+            outcome: Outcome::Refused(13),
+            state: s,
+        };
+    }
+    let z = tick(s);
+    let o = outcome_to(z.had);
+    Stepped {
+        outcome: o,
+        state: z,
+    }
+}
+
+// The ticks up to the moment `to`, one entry of the row for each; 12, 13, 17.
+pub fn run(s: State, to: Moment, row: &mut [u16]) -> Answered
+    requires { ⌜ Given s ⌝ }
+    ensures { λ r. ⌜ (r ≡ ran s (to .0) (now (row .entry)) .result) × (now (row .exit) ≡ ran s (to .0) (now (row .entry)) .row) ⌝ }
+{
+    let end = Table::CLOCK_END;
+    if to.0 < s.clock.0 {
+        return Answered {
+            answer: Answer::Refused(12),
+            state: s,
+        };
+    }
+    if to.0 > end.0 {
+        return Answered {
+            answer: Answer::Refused(13),
+            state: s,
+        };
+    }
+    let n = (to.0 - s.clock.0) as usize;
+    if row.len() < n {
+        return Answered {
+            answer: Answer::Refused(17),
+            state: s,
+        };
+    }
+    let mut z = s;
+    let mut i: usize = 0;
+    while i < n {
+        z = tick(z);
+        row[i] = entry_to(z.had);
+        i += 1;
+    }
+    Answered {
+        answer: Answer::Done,
+        state: z,
+    }
+}
