@@ -17,7 +17,7 @@ use Rattle.rules.specs.Step.{Outcome, Grant, Idle, Stepped, ready, taken, stepp
 use Rattle.rules.specs.Run.{entryOf, stateAfter, rowAfter}
 use Rattle.promises.specs.Cases.{by-test}
 use Rattle.promises.specs.Good.{Good}
-use Rattle.promises.specs.Ready.{Steady, Ready, gone-good, ready-ready, fitted-free, before-end, chosen-leads}
+use Rattle.promises.specs.Ready.{Steady, Ready, ready-beside, ready-ready, fitted-free, before-end, chosen-leads}
 use Rattle.promises.specs.Tables.{Table16}
 
 -- the answer and the entry of a tick, by who had it
@@ -92,8 +92,25 @@ pub had-max : {s : State} → Good s → (s .clock .0 ≡ clockEnd → ⊥) → 
 unfolding moved
 had-max {s} g e = rw (step-is s e) (by-test (λ (r : Stepped). r .state .had ≤ nobody) (eqb (chosen (ready s)) nobody) (λ _. omega arith) (λ f. let y = ready-ready g in let h = chosen-leads y (eqb-false (chosen (ready s)) nobody f) .leads .inside in let k = y .sound .rows .few in omega arith))
 
+-- the entry of a tick is that of who had it
+pub step-entry : (s : State) → (s .clock .0 ≡ clockEnd → ⊥) → entryOf (stepped s .outcome) ≡ entryTo (stepped s .state .had)
+step-entry s e = ap (λ (r : Stepped). entryOf (r .outcome)) (step-by s e) ∙ entry-to (stepped s .state .had)
+
 -- ---- a run
 pub row-length : (n : ℕ) (s : State) → length (rowAfter n s) ≡ n
 unfolding rowAfter
 row-length zero s = refl
 row-length (suc n) s = let r = row-length n s in rw length-append (omega arith)
+
+step-clock : (s : State) → (s .clock .0 ≡ clockEnd → ⊥) → stepped s .state .clock .0 ≡ s .clock .0 + 1
+unfolding moved idled charged
+step-clock s e = ap (λ (r : Stepped). r .state .clock .0) (step-is s e) ∙ by-test (λ (r : Stepped). r .state .clock .0 ≡ s .clock .0 + 1) (eqb (chosen (ready s)) nobody) (λ _. ap (λ m. m .0 + 1) (ready-beside s .clock)) (λ _. ap (λ m. m .0 + 1) (ready-beside s .clock))
+
+-- each tick of a run comes before the clock's end
+pub steps-clock : (n : ℕ) (s : State) → s .clock .0 + n ≤ clockEnd → stateAfter n s .clock .0 ≡ s .clock .0 + n
+unfolding stateAfter
+steps-clock zero s h = omega arith
+steps-clock (suc n) s h = let c = steps-clock n s (omega arith) in omega (arith, step-clock (stateAfter n s) (λ e. omega arith))
+
+pub steps-early : (i n : ℕ) (s : State) → i < n → s .clock .0 + n ≤ clockEnd → stateAfter i s .clock .0 ≡ clockEnd → ⊥
+steps-early i n s h l e = omega (arith, steps-clock i s (omega arith))

@@ -1,9 +1,11 @@
 // The types of the schedule, and the limits of its table. There is no function here.
 
 // A moment, or a length of time, in ticks.
+#[repr(C)]
 pub struct Moment(pub u32);
 
 // An amount in share-ticks. A moment becomes an amount only by multiplying with a share.
+#[repr(C)]
 pub struct Amount(pub i64);
 
 // How one deadline stands to another.
@@ -32,6 +34,7 @@ pub struct Thread {
 }
 
 // A row of a table as it is written: period 0 stands for the usual one.
+#[repr(C)]
 pub struct Row {
     pub app: u16,
     pub share: u16,
@@ -39,6 +42,7 @@ pub struct Row {
 }
 
 // A table as it is written; its rows are the first `threads` of `rows`.
+#[repr(C)]
 pub struct Table {
     pub q: u16,
     pub threads: u16,

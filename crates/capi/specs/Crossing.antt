@@ -1,0 +1,52 @@
+-- A state and an answer as they stand outside, where a number stands in place of an enum.
+use mathlib.Core.Bool.{Bool, cond}
+use mathlib.Core.List.{List, map}
+use Prim.Native.Nat.{ℕ}
+use lib.Dec.{eqb}
+use Rattle.rules.specs.Threads.{Phase, Inactive, Contending, NonContending, Thread, State}
+use Rattle.rules.specs.Table.{Answer, Done, Refused, Answered}
+use Rattle.rules.specs.Step as steps
+use Rattle.rules.specs.Step.{Outcome, Grant, Idle, Stepped}
+use Rattle.rules.specs.Run.{entryOf}
+use Rattle.capi.specs.declared.OutThread.{OutThread}
+use Rattle.capi.specs.declared.OutState.{OutState}
+use Rattle.capi.specs.declared.OutAnswered.{OutAnswered}
+use Rattle.capi.specs.declared.OutStepped.{OutStepped}
+
+-- 0 inactive, 1 contending, 2 non-contending
+abbrev pub phaseNumber : Phase → ℕ
+phaseNumber Inactive = 0
+phaseNumber Contending = 1
+phaseNumber NonContending = 2
+
+abbrev pub phaseOf : ℕ → Phase
+phaseOf n = cond (eqb n 1) Contending (cond (eqb n 2) NonContending Inactive)
+
+abbrev pub outside : Thread → OutThread
+outside x = record { app = x .app; phase = phaseNumber (x .phase); share = x .share; period = x .period; jobs = x .jobs; w = x .w; e = x .e }
+
+abbrev pub inside : OutThread → Thread
+inside x = record { app = x .app; phase = phaseOf (x .phase); share = x .share; period = x .period; jobs = x .jobs; w = x .w; e = x .e }
+
+abbrev pub outsideState : State → OutState
+outsideState s = record { threads = map outside (s .threads); count = s .count; had = s .had; q = s .q; clock = s .clock; completed = s .completed; closed = s .closed }
+
+abbrev pub insideState : OutState → State
+insideState s = record { threads = map inside (s .threads); count = s .count; had = s .had; q = s .q; clock = s .clock; completed = s .completed; closed = s .closed }
+
+-- the refusal's number, or 0 where nothing is refused
+abbrev pub answerNumber : Answer → ℕ
+answerNumber Done = 0
+answerNumber (Refused n) = n
+
+abbrev pub stepNumber : Outcome → ℕ
+stepNumber (Grant i) = 0
+stepNumber Idle = 0
+stepNumber (steps.Refused n) = n
+
+abbrev pub crossed : Answered → OutAnswered
+crossed r = record { refusal = answerNumber (r .answer); state = outsideState (r .state) }
+
+-- the thread that has the tick stands beside the number, 65,535 where none has
+abbrev pub crossedStep : Stepped → OutStepped
+crossedStep r = record { refusal = stepNumber (r .outcome); thread = entryOf (r .outcome); state = outsideState (r .state) }
