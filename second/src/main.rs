@@ -1,0 +1,111 @@
+//! A second implementation of document 01, written from its text alone, for comparison.
+
+mod calls;
+mod cover;
+mod listing;
+mod random;
+mod schedule;
+#[cfg(test)]
+mod tests;
+mod trace;
+
+use random::Size;
+use std::io::{self, Read, Write};
+use std::process;
+
+/// What the commands are.
+const USAGE: &str = "\
+second list                      the listing of the trace on standard input
+second make SEED [small]         a random trace
+second calls SEED                random direct calls with their answers and states
+second pick SEED COUNT EACH      seeds of small random traces that reach each refusal and branch EACH times
+second cover SEED COUNT [small]  how often each refusal and branch is reached over COUNT random traces
+";
+
+fn main() {
+    let words: Vec<String> = std::env::args().skip(1).collect();
+    let words: Vec<&str> = words.iter().map(|word| word.as_str()).collect();
+    let done = match words.as_slice() {
+        ["list"] => list(),
+        ["make", seed] => number(seed).map_or_else(usage, |seed| make(seed, Size::Usual)),
+        ["make", seed, "small"] => number(seed).map_or_else(usage, |seed| make(seed, Size::Small)),
+        ["cover", seed, count] => cover_both(seed, count, Size::Usual),
+        ["cover", seed, count, "small"] => cover_both(seed, count, Size::Small),
+        ["calls", seed] => number(seed).map_or_else(usage, |seed| {
+            io::stdout().write_all(calls::calls(seed).as_bytes())
+        }),
+        ["pick", seed, count, each] => match (number(seed), number(count), number(each)) {
+            (Some(seed), Some(count), Some(each)) => pick(seed, count, each),
+            _ => usage(),
+        },
+        _ => usage(),
+    };
+    if let Err(error) = done {
+        eprintln!("second: {}", error);
+        process::exit(1);
+    }
+}
+
+/// Tells how the program is called.
+fn usage() -> io::Result<()> {
+    eprint!("{}", USAGE);
+    process::exit(2);
+}
+
+/// A number among the words of the command.
+fn number(word: &str) -> Option<u64> {
+    word.parse().ok()
+}
+
+/// Lists the trace on standard input.
+fn list() -> io::Result<()> {
+    let mut input = Vec::new();
+    io::stdin().read_to_end(&mut input)?;
+    let stdout = io::stdout();
+    let mut out = io::BufWriter::new(stdout.lock());
+    listing::list(&input, &mut out)?;
+    out.flush()
+}
+
+/// Writes a random trace.
+fn make(seed: u64, size: Size) -> io::Result<()> {
+    io::stdout().write_all(&random::trace(seed, size))
+}
+
+/// Reads the two numbers of the command `cover` and obeys it.
+fn cover_both(seed: &str, count: &str, size: Size) -> io::Result<()> {
+    match (number(seed), number(count)) {
+        (Some(seed), Some(count)) => cover(seed, count, size),
+        _ => usage(),
+    }
+}
+
+/// Lists random traces and prints what they reached, the making of them left out.
+fn cover(seed: u64, count: u64, size: Size) -> io::Result<()> {
+    let traces = (0..count).map(|i| random::trace(seed.wrapping_add(i), size));
+    let mut total = cover::Counts::new();
+    for trace in traces {
+        cover::take();
+        listing::list(&trace, &mut io::sink())?;
+        total.add(&cover::take());
+    }
+    print!("{}", total.report());
+    Ok(())
+}
+
+/// Prints the seeds of those small random traces that reach something not yet reached by enough of them.
+fn pick(seed: u64, count: u64, each: u64) -> io::Result<()> {
+    let mut total = cover::Counts::new();
+    for i in 0..count {
+        let seed = seed.wrapping_add(i);
+        let trace = random::trace(seed, Size::Small);
+        cover::take();
+        listing::list(&trace, &mut io::sink())?;
+        let counts = cover::take().once();
+        if total.lacks(&counts, each) {
+            total.add(&counts);
+            writeln!(io::stdout(), "{}", seed)?;
+        }
+    }
+    Ok(())
+}
