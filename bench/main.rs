@@ -1,10 +1,11 @@
 // How fast a run into a lent row is, beside the same schedule in plain Rust: once with the state by
 // value, as the library has it, and once in place. All three take the same ticks in one process, in
 // turns, by processor time, and must agree on every entry.
-mod outside;
+#[path = "../bindings/bollardine.rs"]
+mod bollardine;
 mod plain;
 
-use outside::{Library, State as OutState};
+use bollardine::{Answered, Row, Table};
 use plain::State;
 
 // Threads that contend all along, spread over the applications.
@@ -53,12 +54,25 @@ fn rows(load: &Load) -> Vec<(u16, u16, u32)> {
     (0..load.threads).map(|i| ((i % load.apps) as u16, share, 100 + 7 * i as u32)).collect()
 }
 
+fn written(rows: &[(u16, u16, u32)]) -> Table {
+    let mut t = Table { q: Q, threads: rows.len() as u16, rows: [Row { app: 0, share: 0, period: 0 }; 64] };
+    for (x, r) in t.rows.iter_mut().zip(rows) {
+        *x = Row { app: r.0, share: r.1, period: r.2 };
+    }
+    t
+}
+
+fn accepted(r: Answered) -> bollardine::State {
+    assert!(r.refusal == 0, "refused {}", r.refusal);
+    r.state
+}
+
 fn measure(load: &Load) {
     let table = rows(load);
-    let mut library: OutState = Library::begin(Q, &table);
+    let mut library = accepted(bollardine::begin(written(&table)));
     let mut in_place = State::begin(Q, &table);
     for i in 0..load.threads {
-        library = Library::arrive(library, i as u16);
+        library = accepted(bollardine::arrive(library, i as u16));
         in_place.arrive(i);
     }
     let mut by_value = in_place.clone();
@@ -67,7 +81,7 @@ fn measure(load: &Load) {
     let mut done = 0;
     while done < load.ticks {
         let start = processor_time();
-        library = Library::run(library, (done + ROW) as u32, &mut a);
+        library = accepted(bollardine::run(library, (done + ROW) as u32, &mut a));
         let first = processor_time();
         for entry in b.iter_mut() {
             *entry = in_place.step();

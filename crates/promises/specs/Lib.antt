@@ -10,6 +10,7 @@ pub mod Keep
 pub mod Tick
 pub mod Events
 pub mod Begin
+pub mod Admission
 pub mod Ready
 pub mod Always
 pub mod Unchanged

@@ -114,6 +114,10 @@ product-small u m n l h k =
     let q = mul-le-mul l k in
     record { up-small = omega arith; dn-small = omega arith }
 
+-- u × P
+pub period-small : {x : Thread} → RowOk x → Small (scaled x (x .period))
+period-small {x} k = product-small (x .share) (x .period) maxPeriod (k .share-max) (k .period-max) (omega arith)
+
 -- a thread that has ended leaves the others as they were
 pub ended-sound : {s : State} → Sound s → (i : ℕ) → i < s .count → Sound (withRows s (set (s .threads) i (ends (at (s .threads) i))))
 ended-sound {s} g i h = record {

@@ -1,21 +1,42 @@
--- A number for each application, collected in one pass over the threads.
+-- One pass over the threads: every thread changed in turn, or a number collected for each application.
 use mathlib.Core.Path.{_≡_, refl, sym, ap, _∙_, subst}
 use mathlib.Core.Bool.{Bool, true, false, not, cond, _&&_}
 use mathlib.Core.List.{List}
-use Prim.Native.Nat.{ℕ, suc, _+_, _<_}
+use Prim.Native.Nat.{ℕ, zero, suc, _+_, _≤_, _<_}
 use native.Mathlib.Decide.{ℕ-discrete}
+use native.Mathlib.Nat.{le-refl}
 use native.Mathlib.Numerals.{add-one}
 use native.Mathlib.Omega.{arith}
 use borrow.Author.Tests.{ne-eqb, eq-eqb}
 use lib.Dec.{eqb}
 use lib.IntN.{pos}
-use lib.ListN.{length, getD, set, take}
+use lib.ListN.{length, getD, set}
 use lib.Seq.{getD-set-same, getD-set-other}
-use Rattle.lists.specs.Sum.{sumBy, sum-more}
-use Rattle.rules.specs.Limits.{nobody}
-use Rattle.rules.specs.Threads.{Thread, State, blank, at, isInactive, activeIn, freeShare, free, freeOf, sooner, closer, earliest, loses, loseAt}
+use Rattle.lists.specs.MapTo.{mapTo, map-none, map-at, map-more}
+use Rattle.lists.specs.Sum.{sum-none, sum-more}
+use Rattle.rules.specs.Limits.{maxApp, nobody}
+use Rattle.rules.specs.Threads.{Thread, State, blank, at, withRows, isInactive, activeIn, freeShare, free, freeOf, sooner, earliest, loses, loseAt}
 use Rattle.rules.specs.Charge.{beneficiary, benefits}
+use Rattle.promises.specs.Sound.{Sound}
 
+-- ---- every thread changed by f in turn; z is s with the first i of them changed
+module _ (f : Thread → Thread) (s : State) where
+  abbrev pub Changed : ℕ → State → Type 0
+  Changed i z = z ≡ withRows s (mapTo i f (s .threads))
+
+  pub change-none : Changed 0 s
+  change-none = ap (withRows s) (sym (map-none f (s .threads)))
+
+  -- the thread whose turn it is, is as it was
+  pub change-next : (i : ℕ) {z : State} → Changed i z → at (z .threads) i ≡ at (s .threads) i
+  change-next i e = ap (λ (z : State). at (z .threads) i) e ∙ map-at i f (s .threads) i blank (le-refl i)
+
+  pub change-more : Sound s → (i : ℕ) → i < s .count → {z : State} → Changed i z → (x : Thread) → x ≡ f (at (z .threads) i) → Changed (i + 1) (withRows z (set (z .threads) i x))
+  change-more g i h e x k = ap (λ (z : State). withRows z (set (z .threads) i x)) e
+      ∙ ap (λ (y : Thread). withRows s (set (mapTo i f (s .threads)) i y)) (k ∙ ap f (change-next i e))
+      ∙ ap (withRows s) (map-more f (s .threads) i blank (omega (arith, g .few, g .long)))
+
+-- ---- a number for each application
 -- the table f has, for each application a, the number that g has for it
 abbrev pub Table16 : (ℕ → ℕ) → List ℕ → Type 0
 Table16 g f = (a : ℕ) → a < 16 → getD f a 0 ≡ g a
@@ -59,6 +80,11 @@ module _ (xs : List Thread) (i : ℕ) where
   pub first-inactive : isInactive (at xs i .phase) ≡ true → (a : ℕ) → earliest (activeIn a) (i + 1) xs ≡ earliest (activeIn a) i xs
   unfolding earliest
   first-inactive e a = ap (λ k. earliest (activeIn a) k xs) (add-one i) ∙ rw e
+
+-- no thread is of an application that there is not
+pub free-none : {s : State} → Sound s → (a : ℕ) → maxApp < a → (n : ℕ) → n ≤ s .count → free a n (s .threads) ≡ 0
+free-none {s} g a h zero k = sum-none (freeShare a) (s .threads)
+free-none {s} g a h (suc n) k = ap (λ m. free a m (s .threads)) (sym (add-one n)) ∙ free-other (s .threads) n (omega (arith, g .few, g .long)) a (λ e. let o = g .ok n k .app-max in omega arith) ∙ free-none g a h n (omega arith)
 
 -- ---- one turn of each pass
 module _ (xs : List Thread) (i : ℕ) (f : List ℕ) where

@@ -4,13 +4,14 @@ ghost use Rattle.rules.specs.Threads.{freeOf};
 ghost use Rattle.rules.specs.Calls.{Given};
 use crate::passes::free_table;
 use quantities::State;
+use quantities::Table;
 
 // The free share of the application a, 0 where there is no such application.
 pub fn free_share(s: State, a: u16) -> u32
     requires { ⌜ Given s ⌝ }
     ensures { λ r. ⌜ r ≡ freeOf a s ⌝ }
 {
-    if a > 15 {
+    if a > Table::MAX_APP {
         return 0;
     }
     let f = free_table(s);

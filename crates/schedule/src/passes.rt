@@ -1,6 +1,6 @@
 // The steps over all threads, for the modules beside this one alone.
 ghost use mathlib.Core.Path.{_≡_};
-ghost use Prim.Native.Nat.{_+_, _<_, _≤_};
+ghost use Prim.Native.Nat.{_<_};
 ghost use Rattle.rules.specs.Limits.{nobody, clockEnd};
 ghost use Rattle.rules.specs.Threads.{freeOf};
 ghost use Rattle.rules.specs.Leaving.{gone};

@@ -1,7 +1,7 @@
 // Tables: what is refused of one, and the schedule that an admitted one begins.
 ghost use mathlib.Core.Path.{_≡_};
 ghost use Prim.Native.Nat.{_≤_};
-ghost use Rattle.rules.specs.Limits.{maxThreads, usualPeriod};
+ghost use Rattle.rules.specs.Limits.{maxThreads, maxApp, usualPeriod};
 ghost use Rattle.rules.specs.Table as rule;
 ghost use Rattle.rules.specs.Table.{Done, meant, headAnswer, rowAnswer, rowsAnswer, tableAnswer, opened, start, noSchedule, opening};
 use quantities::Amount;
@@ -92,7 +92,7 @@ fn rows(t: Table) -> Answer
 
 // A thread as it begins.
 fn fresh(x: Row) -> Thread
-    requires { ⌜ x .app ≤ 15 ⌝ }
+    requires { ⌜ x .app ≤ maxApp ⌝ }
     ensures { λ r. ⌜ r ≡ opened usualPeriod x ⌝ }
 {
     Thread {
@@ -149,6 +149,7 @@ fn started(t: Table) -> State
     s
 }
 
+// A refused table: its number, and no schedule.
 fn refused(n: u8) -> Answered
     ensures { λ r. ⌜ r ≡ rule.refused n noSchedule ⌝ }
 {

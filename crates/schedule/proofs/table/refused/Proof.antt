@@ -1,0 +1,12 @@
+use borrow.Author.Needs.{needs}
+use Rattle.schedule.proofs.table.refused.Statement.{statement}
+use Rattle.schedule.proofs.table.refused.Tie as tie
+
+no-schedule-requires : tie.Need-no-schedule-requires
+no-schedule-requires c κs = search needs
+
+returns : tie.Need-returns
+returns c = rw (c .no-schedule .ensures)
+
+pub refused-spec : {M : Type 1} → statement M
+refused-spec = tie.close (tie.spec no-schedule-requires returns)
