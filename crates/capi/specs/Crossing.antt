@@ -1,12 +1,11 @@
 -- A state and an answer as they stand outside, where a number stands in place of an enum.
-use mathlib.Core.Bool.{Bool, cond}
-use mathlib.Core.List.{List, map}
+use mathlib.Core.Bool.{cond}
+use mathlib.Core.List.{map}
 use Prim.Native.Nat.{ℕ}
 use lib.Dec.{eqb}
 use Rattle.rules.specs.Threads.{Phase, Inactive, Contending, NonContending, Thread, State}
-use Rattle.rules.specs.Table.{Answer, Done, Refused, Answered}
-use Rattle.rules.specs.Step as steps
-use Rattle.rules.specs.Step.{Outcome, Grant, Idle, Stepped}
+use Rattle.rules.specs.Table.{Answered, numberOf}
+use Rattle.rules.specs.Step.{Stepped, stepNumber}
 use Rattle.rules.specs.Run.{entryOf}
 use Rattle.capi.specs.declared.OutThread.{OutThread}
 use Rattle.capi.specs.declared.OutState.{OutState}
@@ -34,18 +33,8 @@ outsideState s = record { threads = map outside (s .threads); count = s .count; 
 abbrev pub insideState : OutState → State
 insideState s = record { threads = map inside (s .threads); count = s .count; had = s .had; q = s .q; clock = s .clock; completed = s .completed; closed = s .closed }
 
--- the refusal's number, or 0 where nothing is refused
-abbrev pub answerNumber : Answer → ℕ
-answerNumber Done = 0
-answerNumber (Refused n) = n
-
-abbrev pub stepNumber : Outcome → ℕ
-stepNumber (Grant i) = 0
-stepNumber Idle = 0
-stepNumber (steps.Refused n) = n
-
 abbrev pub crossed : Answered → OutAnswered
-crossed r = record { refusal = answerNumber (r .answer); state = outsideState (r .state) }
+crossed r = record { refusal = numberOf (r .answer); state = outsideState (r .state) }
 
 -- the thread that has the tick stands beside the number, 65,535 where none has
 abbrev pub crossedStep : Stepped → OutStepped

@@ -3,14 +3,14 @@
 ghost use mathlib.Core.Path.{_≡_};
 ghost use Rattle.rules.specs.Limits.{usualPeriod};
 ghost use Rattle.rules.specs.Threads.{freeOf};
-ghost use Rattle.rules.specs.Table.{opening};
+ghost use Rattle.rules.specs.Table.{numberOf, opening};
 ghost use Rattle.rules.specs.Completion.{completion};
 ghost use Rattle.rules.specs.Arrival.{arrival};
 ghost use Rattle.rules.specs.Drop.{dropped};
-ghost use Rattle.rules.specs.Step.{stepped};
+ghost use Rattle.rules.specs.Step.{stepNumber, stepped};
 ghost use Rattle.rules.specs.Run.{entryOf, ran};
 ghost use Rattle.rules.specs.Calls.{Given};
-ghost use Rattle.capi.specs.Crossing.{phaseNumber, phaseOf, outside, inside, outsideState, insideState, answerNumber, stepNumber, crossed, crossedStep};
+ghost use Rattle.capi.specs.Crossing.{phaseNumber, phaseOf, outside, inside, outsideState, insideState, crossed, crossedStep};
 use quantities::Amount;
 use quantities::Answer;
 use quantities::Answered;
@@ -162,7 +162,7 @@ fn state_in(s: OutState) -> State
 }
 
 fn answer_number(a: Answer) -> u8
-    ensures { λ r. ⌜ r ≡ answerNumber a ⌝ }
+    ensures { λ r. ⌜ r ≡ numberOf a ⌝ }
 {
     match a {
         Answer::Done => 0,

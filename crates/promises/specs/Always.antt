@@ -13,7 +13,7 @@ use Rattle.lists.specs.MapTo.{mapTo, map-same}
 use Rattle.lists.specs.Take.{all-upd, at-upd}
 use Rattle.rules.specs.Limits.{nobody, maxJobs, clockEnd}
 use Rattle.rules.specs.Threads.{Thread, State, blank, at, scaled, isNon}
-use Rattle.rules.specs.Table.{Table, Done, Answered, done, refused, tableAnswer, start}
+use Rattle.rules.specs.Table.{Table, Answered, done, opening}
 use Rattle.rules.specs.Completion.{completion, afterCompletion}
 use Rattle.rules.specs.Leaving.{leave, gone}
 use Rattle.rules.specs.Arrival.{arrival, arrived}
@@ -28,7 +28,7 @@ use Rattle.promises.specs.Cases.{by-test, true-false}
 use Rattle.promises.specs.Good.{Good}
 use Rattle.promises.specs.Tick.{Alike, leads-alike, Chosen, charge-rows, charge-alike, idle-rows}
 use Rattle.promises.specs.Events.{completing-rows, arrive-rows, arrive-left, drop-rows, head-alike, head-ahead}
-use Rattle.promises.specs.Begin.{start-good}
+use Rattle.promises.specs.Begin.{opening-good}
 use Rattle.promises.specs.Ready.{Ready, gone-beside, gone-good, ready-ready, chosen-leads, none-contends, before-end}
 
 -- ---- the step
@@ -36,7 +36,6 @@ idle-good : {z : State} → Ready z → z .clock .0 < clockEnd → chosen z ≡ 
 unfolding moved idled
 idle-good {z} y h e = let s = y .sound in record {
   time = omega arith;
-  q-min = s .q-min;
   q-max = s .q-max;
   rows = idle-rows (s .rows) (none-contends y e);
   head-start = λ _ _ k. absurd (no (s .rows .few) k);
@@ -50,7 +49,6 @@ grant-good : {z : State} → Ready z → z .clock .0 < clockEnd → (c : ℕ) �
 unfolding moved charged
 grant-good {z} y h c ch = let s = y .sound in record {
   time = omega arith;
-  q-min = s .q-min;
   q-max = s .q-max;
   rows = charge-rows z c ch (s .rows);
   head-start = λ _ _ _. leads-alike (charge-alike z c ch (s .rows)) (ch .leads);
@@ -103,7 +101,6 @@ arrived-good {s} i g h j =
     let k : i < gone s .count = omega (arith, gone-beside s .count) in
     record {
       time = l .0 .time;
-      q-min = l .0 .q-min;
       q-max = l .0 .q-max;
       rows = arrive-rows (l .0 .rows) (l .1) i k (omega (arith, same-jobs s i));
       head-start = λ c. absurd (true-false c);
@@ -121,7 +118,6 @@ completed-good : {s : State} → Good s → s .had < s .count → s .closed ≡ 
 unfolding afterCompletion
 completed-good {s} g h c d = record {
   time = g .time;
-  q-min = g .q-min;
   q-max = g .q-max;
   rows = completing-rows (g .rows) (s .had) (g .head-start c d h);
   head-start = λ _ d. absurd (true-false d);
@@ -146,7 +142,6 @@ drop-good {s} i g = by-test GoodA (ltb i (s .count)) (λ h. into (ltb-true i (s 
     into : i < s .count → GoodA (done (record { threads = set (s .threads) i (headOnly (at (s .threads) i)); count = s .count; had = s .had; q = s .q; clock = s .clock; completed = s .completed; closed = s .closed }))
     into h = record {
       time = g .time;
-      q-min = g .q-min;
       q-max = g .q-max;
       rows = drop-rows (g .rows) i h;
       head-start = λ c d k. leads-alike alike (g .head-start c d k);
@@ -168,12 +163,12 @@ after-good (c ∷ cs) g = after-good cs (apply-good c g)
 
 -- every given state is good
 pub given-good : {s : State} → Given s → Good s
-given-good g = rw (g .came) (after-good (g .calls) (start-good (g .usual) (g .table) (g .admitted)))
+given-good g = rw (g .came) (after-good (g .calls) (opening-good (g .usual) (g .table)))
 
 -- ---- where a state comes from
-pub given-start : (usual : ℕ) (t : Table) → tableAnswer usual t ≡ Done → Given (start usual t)
+pub given-opening : (usual : ℕ) (t : Table) → Given (opening usual t .state)
 unfolding after
-given-start usual t e = record { usual = usual; table = t; admitted = e; calls = []; came = refl }
+given-opening usual t = record { usual = usual; table = t; calls = []; came = refl }
 
 pub after-more : (cs : List Call) (s : State) (c : Call) → after s (cs ++ (c ∷ [])) ≡ apply (after s cs) c
 unfolding after
@@ -185,9 +180,8 @@ pub given-by : {s : State} → Given s → (c : Call) → Given (apply s c)
 given-by g c = record {
   usual = g .usual;
   table = g .table;
-  admitted = g .admitted;
   calls = g .calls ++ (c ∷ []);
-  came = ap (λ s. apply s c) (g .came) ∙ sym (after-more (g .calls) (start (g .usual) (g .table)) c);
+  came = ap (λ s. apply s c) (g .came) ∙ sym (after-more (g .calls) (opening (g .usual) (g .table) .state) c);
 }
 
 pub given-steps : (n : ℕ) {s : State} → Given s → Given (stateAfter n s)

@@ -13,10 +13,10 @@ use lib.IntN.{pos}
 use lib.ListN.{length, take, set, length-set, length-replicate}
 use lib.Seq.{getD-set-same, getD-set-other}
 use Rattle.lists.specs.Sum.{sumBy, sum-none, sum-more}
-use Rattle.lists.specs.All.{All, all-of, all-weaken}
+use Rattle.lists.specs.All.{none, all-of}
 use Rattle.rules.specs.Limits.{maxQ, maxThreads, maxApp, maxPeriod, nobody}
 use Rattle.rules.specs.Threads.{Thread, State, blank, at}
-use Rattle.rules.specs.Table.{Row, Table, Answer, Done, Refused, first, meant, headAnswer, rowAnswer, rowAt, sharesTo, rowsAnswer, tableAnswer, opened, openedTo, start}
+use Rattle.rules.specs.Table.{Row, Table, Answer, Done, Refused, first, meant, headAnswer, rowAnswer, rowAt, sharesTo, rowsAnswer, tableAnswer, opened, openedTo, start, noSchedule, openedAs, opening}
 use Rattle.promises.specs.Good.{share, deficit, Fine, Rows, Good}
 use Rattle.promises.specs.Tick.{Late, late-claims}
 
@@ -58,7 +58,6 @@ row-admitted usual q before x e =
     }
 
 pub record Headed (q n : ℕ) : Type 0 where
-  pub q-min : 1 ≤ q
   pub q-max : q ≤ maxQ
   pub few : n ≤ maxThreads
 
@@ -69,8 +68,7 @@ head-admitted q n e =
     let p1' = peel (ltb maxQ q) 1 _ (p1 .1) in
     let p2 = peel (eqb n 0) 2 _ (p1' .1) in
     let p2' = peel (ltb maxThreads n) 2 Done (p2 .1) in
-    let nz = eqb-false q 0 (p1 .0) in
-    record { q-min = omega arith; q-max = ltb-false maxQ q (p1' .0); few = ltb-false maxThreads n (p2' .0) }
+    record { q-max = ltb-false maxQ q (p1' .0); few = ltb-false maxThreads n (p2' .0) }
 
 module _ (usual q : ℕ) (rows : List Row) where
   -- each of the first n rows is admitted
@@ -155,7 +153,6 @@ start-good usual t e =
     let h = head-admitted (t .q) (t .threads) (p .0) in
     record {
       time = omega arith;
-      q-min = h .q-min;
       q-max = h .q-max;
       rows = opened-rows usual (t .q) (t .rows) (t .threads) (h .few) (p .1);
       head-start = λ _ _ k. absurd (no (h .few) k);
@@ -164,3 +161,29 @@ start-good usual t e =
   where
     no : t .threads ≤ maxThreads → nobody < t .threads → ⊥
     no f k = omega arith
+
+-- .. and what a refused table hands out in its place
+no-schedule-good : Good noSchedule
+unfolding sumBy
+no-schedule-good = record {
+  time = omega arith;
+  q-max = omega arith;
+  rows = record {
+    long = length-replicate maxThreads blank;
+    few = omega arith;
+    shares = omega arith;
+    fine = none;
+    debts = omega arith;
+    claims = λ k n k1 h. omega arith;
+  };
+  head-start = λ _ _ k. absurd (not-suc-le-zero k);
+  left = λ c. let z : _≡_ {A = ℕ} 0 1 = cc in absurd (omega arith);
+}
+
+pub opening-good : (usual : ℕ) (t : Table) → Good (opening usual t .state)
+unfolding opening
+opening-good usual t = go (tableAnswer usual t) refl
+  where
+    go : (a : Answer) → tableAnswer usual t ≡ a → Good (openedAs a (start usual t) .state)
+    go Done e = start-good usual t e
+    go (Refused n) e = no-schedule-good

@@ -93,7 +93,6 @@ pub record Leads (m : ℕ) (xs : List Thread) (c : ℕ) : Type 0 where
 -- ---- a given state
 pub record Good (s : State) : Type 0 where
   pub time : s .clock .0 ≤ clockEnd
-  pub q-min : 1 ≤ s .q
   pub q-max : s .q ≤ maxQ
   pub rows : Rows (s .count) (s .q) (s .clock .0) (s .threads)
   -- head start: while a completion may still be accepted, who had the tick leads

@@ -34,7 +34,7 @@ use Rattle.promises.specs.Jobs.{Agrees, Close, Completes, drop-agrees, d
 -- ---- the calls, but for a run
 module _ {q u p i : ℕ} {g : Account} {s : State} (good : Good s) (b : Books q u p i g s) where
   q-pos : 0 < q
-  q-pos = omega (arith, b .q-same, good .q-min)
+  q-pos = let f = fine-at (good .rows) i (b .inside) in omega (arith, b .q-same, f .share-min, f .share-max)
 
   among : i < length (s .threads)
   among = inside (good .rows) (b .inside)

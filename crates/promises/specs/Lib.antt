@@ -1,4 +1,5 @@
 pub mod Demand3
+pub mod Refused
 pub mod Cases
 pub mod Deadlines
 pub mod Good

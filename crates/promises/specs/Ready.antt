@@ -24,12 +24,11 @@ use Rattle.promises.specs.Tick.{Chosen}
 -- what holds of a state whatever happened at its moment
 pub record Steady (s : State) : Type 0 where
   pub time : s .clock .0 ≤ clockEnd
-  pub q-min : 1 ≤ s .q
   pub q-max : s .q ≤ maxQ
   pub rows : Rows (s .count) (s .q) (s .clock .0) (s .threads)
 
 pub steady : {s : State} → Good s → Steady s
-steady g = record { time = g .time; q-min = g .q-min; q-max = g .q-max; rows = g .rows }
+steady g = record { time = g .time; q-max = g .q-max; rows = g .rows }
 
 -- leaving and fitting leave the numbers beside the threads
 pub record Beside (s z : State) : Type 0 where
@@ -51,7 +50,7 @@ unfolding gone
 gone-good {s} g =
     by-test (λ (z : State). Steady z × All (Ahead (z .clock .0)) (take (z .count) (z .threads))) (s .closed)
     (λ c. (steady g, g .left c))
-    (λ _. let l = leave-rows (g .rows) in (record { time = g .time; q-min = g .q-min; q-max = g .q-max; rows = l .0 }, l .1))
+    (λ _. let l = leave-rows (g .rows) in (record { time = g .time; q-max = g .q-max; rows = l .0 }, l .1))
 
 -- .. and once all contending threads fit
 pub record Ready (z : State) : Type 0 where
@@ -65,7 +64,7 @@ fitted-free a s = sum-map (freeShare a) (fitIn s) (λ x. fit-free a (roomOf s x)
 
 pub fitted-steady : {s : State} → Steady s → Steady (fitted s)
 unfolding fitted
-fitted-steady {s} g = record { time = g .time; q-min = g .q-min; q-max = g .q-max; rows = fit-rows (λ a. freeOf a s) (g .rows) }
+fitted-steady {s} g = record { time = g .time; q-max = g .q-max; rows = fit-rows (λ a. freeOf a s) (g .rows) }
 
 fitted-fits : {s : State} → Steady s → (c : ℕ) → c < fitted s .count → Fits (fitted s .q - freeOf (at (fitted s .threads) c .app) s) (at (fitted s .threads) c)
 unfolding fitted

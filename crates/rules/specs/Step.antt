@@ -1,5 +1,5 @@
 -- Document 01: one tick, that is steps 2 and 4 to 6. "One step answers with a grant, an idle tick or a refusal."
-use mathlib.Core.Bool.{Bool, cond}
+use mathlib.Core.Bool.{cond}
 use Prim.Native.Nat.{ℕ}
 use lib.Dec.{eqb}
 use Rattle.rules.specs.Limits.{nobody, clockEnd}
@@ -11,6 +11,12 @@ use Rattle.rules.specs.Charge.{charged, moved}
 pub use Rattle.quantities.specs.declared.Outcome.{Outcome}
 pub use Rattle.quantities.specs.declared.Outcome.the-variants.{Grant, Idle, Refused}
 pub use Rattle.quantities.specs.declared.Stepped.{Stepped}
+
+-- the number of a refusal, and 0 for none
+abbrev pub stepNumber : Outcome → ℕ
+stepNumber (Grant i) = 0
+stepNumber Idle = 0
+stepNumber (Refused n) = n
 
 -- the state at the choice: after leaving and fitting
 abbrev pub ready : State → State

@@ -1,11 +1,10 @@
 -- Document 01, "Quantities" and "Refusal numbers": which tables are admitted, and the state that one begins with.
-use mathlib.Core.Bool.{Bool, true, false, cond}
+use mathlib.Core.Bool.{false, cond}
 use mathlib.Core.List.{List}
 use Prim.Native.Nat.{ℕ, zero, suc, _+_, _*_}
 use lib.Dec.{eqb, ltb}
 use lib.IntN.{pos}
-use lib.ListN.{getD, set, take, replicate}
-use Rattle.lists.specs.Sum.{sumBy}
+use lib.ListN.{getD, set, replicate}
 use Rattle.rules.specs.Limits.{maxQ, maxThreads, maxApp, maxPeriod, nobody}
 use Rattle.rules.specs.Threads.{Thread, State, Inactive, blank, amt}
 pub use Rattle.quantities.specs.declared.Row.{Row}
@@ -13,6 +12,11 @@ pub use Rattle.quantities.specs.declared.Table.{Table}
 pub use Rattle.quantities.specs.declared.Answer.{Answer}
 pub use Rattle.quantities.specs.declared.Answer.the-variants.{Done, Refused}
 pub use Rattle.quantities.specs.declared.Answered.{Answered}
+
+-- the number of a refusal, and 0 for none
+abbrev pub numberOf : Answer → ℕ
+numberOf Done = 0
+numberOf (Refused n) = n
 
 -- the first answer, unless it is no refusal
 abbrev pub first : Answer → Answer → Answer

@@ -1,0 +1,5 @@
+pub mod Example
+pub mod Worked
+pub mod Marked
+pub mod Witness
+pub mod Telling

@@ -1,0 +1,1 @@
+// Document 01 worked in examples, in specs/; no code.

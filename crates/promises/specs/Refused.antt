@@ -1,0 +1,69 @@
+-- Demand 1: "A refused call changes neither the schedule nor any lent row."
+use mathlib.Core.Path.{_≡_, refl}
+use mathlib.Core.List.{List}
+use Prim.Native.Nat.{ℕ, _-_}
+use lib.Dec.{eqb, ltb}
+use lib.ListN.{length}
+use Rattle.rules.specs.Limits.{nobody, maxJobs, clockEnd}
+use Rattle.rules.specs.Threads.{State, at}
+use Rattle.rules.specs.Table.{Answered, numberOf}
+use Rattle.rules.specs.Completion.{completion}
+use Rattle.rules.specs.Arrival.{arrival}
+use Rattle.rules.specs.Drop.{dropped}
+use Rattle.rules.specs.Choice.{chosen}
+use Rattle.rules.specs.Step.{Stepped, stepNumber, ready, stepped}
+use Rattle.rules.specs.Run.{Ran, ran}
+use Rattle.rules.specs.Calls as calls
+use Rattle.rules.specs.Calls.{Call, apply, refusalOf}
+use Rattle.promises.specs.Cases.{by-test}
+
+module _ (s : State) where
+  abbrev Kept : Answered → Type 0
+  Kept r = (numberOf (r .answer) ≡ 0 → ⊥) → r .state ≡ s
+
+  completion-kept : (i : ℕ) → Kept (completion s i)
+  unfolding completion
+  completion-kept i =
+      by-test Kept (ltb i (s .count))
+      (λ _. by-test Kept (s .closed) (λ _ _. refl)
+      (λ _. by-test Kept (eqb i (s .had)) (λ _. by-test Kept (s .completed) (λ _ _. refl) (λ _ n. absurd (n refl))) (λ _ _. refl)))
+      (λ _ _. refl)
+
+  arrival-kept : (i : ℕ) → Kept (arrival s i)
+  unfolding arrival
+  arrival-kept i =
+      by-test Kept (ltb i (s .count))
+      (λ _. by-test Kept (ltb (at (s .threads) i .jobs) maxJobs) (λ _ n. absurd (n refl)) (λ _ _. refl))
+      (λ _ _. refl)
+
+  drop-kept : (i : ℕ) → Kept (dropped s i)
+  unfolding dropped
+  drop-kept i = by-test Kept (ltb i (s .count)) (λ _ n. absurd (n refl)) (λ _ _. refl)
+
+  step-kept : (stepNumber (stepped s .outcome) ≡ 0 → ⊥) → stepped s .state ≡ s
+  unfolding stepped
+  step-kept =
+      by-test P (eqb (s .clock .0) clockEnd) (λ _ _. refl)
+      (λ _. by-test P (eqb (chosen (ready s)) nobody) (λ _ n. absurd (n refl)) (λ _ n. absurd (n refl)))
+    where
+      P : Stepped → Type 0
+      P r = (stepNumber (r .outcome) ≡ 0 → ⊥) → r .state ≡ s
+
+  -- the state and the lent row
+  pub run-kept : (to : ℕ) (row : List ℕ) → (numberOf (ran s to row .result .answer) ≡ 0 → ⊥) → (ran s to row .result .state ≡ s) × (ran s to row .row ≡ row)
+  unfolding ran
+  run-kept to row =
+      by-test P (ltb to (s .clock .0)) (λ _ _. (refl, refl))
+      (λ _. by-test P (ltb clockEnd to) (λ _ _. (refl, refl))
+      (λ _. by-test P (ltb (length row) (to - s .clock .0)) (λ _ _. (refl, refl)) (λ _ n. absurd (n refl))))
+    where
+      P : Ran → Type 0
+      P r = (numberOf (r .result .answer) ≡ 0 → ⊥) → (r .result .state ≡ s) × (r .row ≡ row)
+
+-- of every state, whatever the call
+pub refused-kept : (c : Call) (s : State) → (refusalOf s c ≡ 0 → ⊥) → apply s c ≡ s
+refused-kept (calls.complete i) s n = completion-kept s i n
+refused-kept (calls.arrive i) s n = arrival-kept s i n
+refused-kept (calls.drop i) s n = drop-kept s i n
+refused-kept calls.step s n = step-kept s n
+refused-kept (calls.run to row) s n = run-kept s to row n .0
