@@ -1,15 +1,14 @@
 -- Every given state is good, and a call on a given state gives a given state.
 use mathlib.Core.Path.{_≡_, refl, sym, ap, _∙_}
-use mathlib.Core.Bool.{Bool, true, false, not, cond}
+use mathlib.Core.Bool.{false}
 use mathlib.Core.List.{List, [], _∷_, _++_}
-use Prim.Native.Nat.{ℕ, zero, suc, _+_, _-_, _≤_, _<_}
+use Prim.Native.Nat.{ℕ, zero, suc, _-_, _≤_, _<_}
 use native.Mathlib.Omega.{arith}
 use borrow.Author.Tests.{eqb-false, eqb-true, ltb-true}
 use lib.Dec.{eqb, ltb}
-use lib.IntN.{pos}
 use lib.Signed.{ltZ}
 use lib.ListN.{length, set}
-use Rattle.lists.specs.MapTo.{mapTo, map-same}
+use Rattle.lists.specs.MapTo.{map-same}
 use Rattle.lists.specs.Take.{all-upd, at-upd}
 use Rattle.rules.specs.Limits.{nobody, maxJobs, clockEnd}
 use Rattle.rules.specs.Threads.{Thread, State, blank, at, scaled, isNon}
@@ -20,7 +19,7 @@ use Rattle.rules.specs.Arrival.{arrival, arrived}
 use Rattle.rules.specs.Drop.{headOnly, dropped}
 use Rattle.rules.specs.Choice.{chosen, idled}
 use Rattle.rules.specs.Charge.{charged, moved}
-use Rattle.rules.specs.Step.{Stepped, ready, taken, stepped}
+use Rattle.rules.specs.Step.{Stepped, taken, stepped}
 use Rattle.rules.specs.Run.{Ran, stateAfter, ran}
 use Rattle.rules.specs.Calls as calls
 use Rattle.rules.specs.Calls.{Call, apply, after, Given}

@@ -8,17 +8,16 @@ use native.Mathlib.Nat.{not-suc-le-zero}
 use native.Mathlib.Numerals.{add-one}
 use native.Mathlib.Omega.{arith}
 use borrow.Author.Tests.{ltb-false, eqb-false}
-use lib.Dec.{T, eqb, ltb}
-use lib.IntN.{pos}
+use lib.Dec.{eqb, ltb}
 use lib.ListN.{length, take, set, length-set, length-replicate}
 use lib.Seq.{getD-set-same, getD-set-other}
 use Rattle.lists.specs.Sum.{sumBy, sum-none, sum-more}
 use Rattle.lists.specs.All.{none, all-of}
 use Rattle.rules.specs.Limits.{maxQ, maxThreads, maxApp, maxPeriod, nobody}
-use Rattle.rules.specs.Threads.{Thread, State, blank, at}
+use Rattle.rules.specs.Threads.{Thread, blank, at}
 use Rattle.rules.specs.Table.{Row, Table, Answer, Done, Refused, first, meant, headAnswer, rowAnswer, rowAt, sharesTo, rowsAnswer, tableAnswer, opened, openedTo, start, noSchedule, openedAs, opening}
 use Rattle.promises.specs.Good.{share, deficit, Fine, Rows, Good}
-use Rattle.promises.specs.Tick.{Late, late-claims}
+use Rattle.promises.specs.Tick.{late-claims}
 
 -- ---- what is not refused
 peel : (b : Bool) (k : ℕ) (a : Answer) → cond b (Refused k) a ≡ Done → (b ≡ false) × (a ≡ Done)

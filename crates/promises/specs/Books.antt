@@ -2,7 +2,7 @@
 use mathlib.Core.Path.{_≡_, refl, sym, _∙_, subst}
 use mathlib.Core.Bool.{Bool, true, false, cond}
 use mathlib.Core.List.{List, [], _∷_, _++_}
-use Prim.Native.Nat.{ℕ, _*_, _≤_, _<_}
+use Prim.Native.Nat.{ℕ, _≤_, _<_}
 use native.Mathlib.Omega.{arith}
 use borrow.Author.Tests.{eq-eqb}
 use lib.Dec.{T, eqb, ltb}
@@ -13,7 +13,7 @@ use Rattle.lists.specs.MapTo.{map-keeps}
 use Rattle.lists.specs.All.{All, none}
 use Rattle.lists.specs.Take.{at-put}
 use Rattle.rules.specs.Limits.{maxThreads, nobody, apps}
-use Rattle.rules.specs.Threads.{Thread, State, Inactive, blank, at, scaled, contends, idle, loses}
+use Rattle.rules.specs.Threads.{Thread, State, Inactive, blank, at, scaled, contends, idle}
 use Rattle.rules.specs.Completion.{goesOn, stays, ends, receiver, gives, completing}
 use Rattle.rules.specs.Leaving.{leave, gone}
 use Rattle.rules.specs.Arrival.{arrive, arrived}

@@ -3,7 +3,6 @@ use mathlib.Core.Path.{_≡_, refl, sym, subst}
 use mathlib.Core.Bool.{Bool, true, false, not, cond, _&&_}
 use Prim.Native.Nat.{ℕ}
 use lib.Dec.{T, T-not, eqb, eqb-refl}
-use native.Mathlib.Omega.{arith}
 
 -- a test by its two values
 pub test : (Q : Bool → Type 0) (b : Bool) → (T b → Q true) → (T (not b) → Q false) → Q b
@@ -17,13 +16,6 @@ by-test P false f g = g refl
 
 pub true-T : {b : Bool} → b ≡ true → T b
 true-T e = subst T (sym e) tt
-
-pub false-T : {b : Bool} → b ≡ false → T (not b)
-false-T e = subst (λ b. T (not b)) (sym e) tt
-
-pub T-true : (b : Bool) → T b → b ≡ true
-T-true true t = refl
-T-true false t = absurd t
 
 pub true-false : true ≡ false → ⊥
 true-false e = subst T e tt

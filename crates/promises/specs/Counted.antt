@@ -1,9 +1,9 @@
 -- Nothing is left out of an account: every accepted completion of the thread is one of its completed jobs, and every tick that
 -- it was granted is in the length of a job.
-use mathlib.Core.Path.{_≡_, refl, sym, ap, ap₂, _∙_, subst}
+use mathlib.Core.Path.{_≡_, refl, sym, ap, _∙_, subst}
 use mathlib.Core.Bool.{Bool, true, false, cond}
 use mathlib.Core.List.{List, [], _∷_, _++_, map, map-append, append-assoc, append-nil}
-use Prim.Native.Nat.{ℕ, zero, suc, _+_, _-_, _≤_, _<_}
+use Prim.Native.Nat.{ℕ, zero, suc, _+_, _-_, _<_}
 use native.Mathlib.Nat.{not-suc-le-zero}
 use native.Mathlib.Omega.{arith}
 use borrow.Author.Tests.{eqb-true, eqb-false, ltb-true}
@@ -14,7 +14,7 @@ use Rattle.lists.specs.All.{All, none, more, all-append}
 use Rattle.rules.specs.Limits.{nobody, clockEnd}
 use Rattle.rules.specs.Threads.{State, at, contends}
 use Rattle.rules.specs.Table.{Answer, Done, Refused, Answered}
-use Rattle.rules.specs.Completion.{completion, afterCompletion}
+use Rattle.rules.specs.Completion.{completion}
 use Rattle.rules.specs.Arrival.{arrival}
 use Rattle.rules.specs.Drop.{dropped}
 use Rattle.rules.specs.Choice.{chosen}
@@ -30,7 +30,7 @@ use Rattle.promises.specs.Keep.{fine-at}
 use Rattle.promises.specs.Ready.{ready-ready, chosen-leads}
 use Rattle.promises.specs.Always.{steps-good, apply-good}
 use Rattle.promises.specs.Books.{Books, ready-standing}
-use Rattle.promises.specs.Ledger.{account-append, ticks-books, call-books}
+use Rattle.promises.specs.Ledger.{ticks-books, call-books}
 
 -- ---- of an account alone
 -- the moments of its completed jobs, and the ticks in all its jobs

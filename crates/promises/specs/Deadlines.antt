@@ -1,6 +1,6 @@
 -- The order of deadlines, and what `earliest` names: a thread that passes the test, with no later deadline than any that does.
-use mathlib.Core.Path.{_≡_, refl, sym, ap, _∙_, subst}
-use mathlib.Core.Bool.{Bool, true, false, not, cond}
+use mathlib.Core.Path.{_≡_, refl, sym, _∙_, subst}
+use mathlib.Core.Bool.{Bool, true, false, cond}
 use mathlib.Core.List.{List}
 use Prim.Native.Nat.{ℕ, zero, suc, _+_, _*_, _≤_, _<_}
 use native.Mathlib.Decide.{ℕ-discrete}
@@ -8,11 +8,11 @@ use native.Mathlib.Nat.{mul-le-mul-left, not-suc-le-zero, le-of-mul-le-mul-left}
 use native.Mathlib.Omega.{arith}
 use borrow.Author.Tests.{eqb-true, eqb-false}
 use lib.Dec.{T, eqb}
-use lib.IntN.{ℤ, pos, _*ℤ_}
+use lib.IntN.{pos, _*ℤ_}
 use lib.Signed.{ltZ}
 use Rattle.integers.specs.Parts.{up, dn, mul-up, mul-dn, ltZ-true, ltZ-false}
 use Rattle.rules.specs.Limits.{nobody}
-use Rattle.rules.specs.Threads.{Thread, Order, Earlier, Equal, Later, at, isEarlier, sooner, closer, earliest}
+use Rattle.rules.specs.Threads.{Thread, Earlier, Equal, Later, at, isEarlier, sooner, closer, earliest}
 use Rattle.promises.specs.Cases.{test, by-test}
 
 -- the deadline of x is not after that of y

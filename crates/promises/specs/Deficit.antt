@@ -1,14 +1,14 @@
 -- How far one thread is behind the clock, and how each step changes it.
 use mathlib.Core.Path.{_≡_, refl}
-use mathlib.Core.Bool.{Bool, true, false, not, cond}
+use mathlib.Core.Bool.{not, cond}
 use Prim.Native.Nat.{ℕ, _+_, _*_, _-_, _≤_}
 use native.Mathlib.Omega.{arith}
 use lib.Dec.{T}
-use lib.IntN.{ℤ, pos, _+ℤ_, _-ℤ_}
+use lib.IntN.{pos, _+ℤ_, _-ℤ_}
 use lib.Signed.{ltZ}
 use Rattle.integers.specs.Parts.{up, dn, add-parts, sub-parts, dn-clip}
-use Rattle.rules.specs.Threads.{Thread, Phase, Inactive, Contending, NonContending, with, withJobs, scaled, isInactive, isNon, contends, active, idle, loses}
-use Rattle.rules.specs.Completion.{goesOn, stays, ends, greater}
+use Rattle.rules.specs.Threads.{Thread, Phase, Inactive, Contending, NonContending, withJobs, scaled, isInactive, isNon, contends, active, idle, loses}
+use Rattle.rules.specs.Completion.{goesOn, stays, ends}
 use Rattle.rules.specs.Leaving.{leave}
 use Rattle.rules.specs.Arrival.{arriveAs, arrive}
 use Rattle.rules.specs.Fitting.{fit, postpone}

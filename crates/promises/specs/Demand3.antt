@@ -15,7 +15,7 @@ use lib.Signed.{_≤ℤ_}
 use Rattle.lists.specs.Sum.{sumBy}
 use Rattle.lists.specs.All.{All}
 use Rattle.rules.specs.Threads.{State, at}
-use Rattle.rules.specs.Table.{Table, Done, meant, rowAt, tableAnswer, start}
+use Rattle.rules.specs.Table.{Table, meant, rowAt, start}
 use Rattle.rules.specs.Step.{ready}
 use Rattle.rules.specs.Calls.{Call, after}
 use Rattle.rules.specs.History.{Happening, completed, arrived, dropped-to-head, granted, idle-tick, history, Job, Finished, Account, noJobs, account, completionsOf, grantsTo}

@@ -1,20 +1,20 @@
 -- A completion, an arrival and a drop keep what holds of the threads.
-use mathlib.Core.Path.{_≡_, refl, sym, ap, _∙_, subst}
-use mathlib.Core.Bool.{Bool, true, false, not, cond, _&&_}
+use mathlib.Core.Path.{_≡_, refl, _∙_}
+use mathlib.Core.Bool.{false, not}
 use mathlib.Core.List.{List}
 use Prim.Native.Nat.{ℕ, _+_, _*_, _-_, _≤_, _<_}
 use native.Mathlib.Omega.{arith}
 use borrow.Author.Tests.{ltb-true}
 use lib.Dec.{T, ltb}
-use lib.IntN.{ℤ, pos, _+ℤ_, _-ℤ_}
+use lib.IntN.{ℤ, pos, _+ℤ_}
 use lib.Signed.{ltZ}
-use lib.ListN.{length, take, set, length-set}
+use lib.ListN.{take, set, length-set}
 use Rattle.integers.specs.Parts.{up, dn, _≼_, sub-parts, as-nat, dn-clip, ltZ-true, ltZ-false}
 use Rattle.lists.specs.Sum.{sumBy, sum-store}
 use Rattle.lists.specs.Take.{sum-put}
 use Rattle.lists.specs.All.{All, all-at, all-set}
-use Rattle.rules.specs.Limits.{nobody, maxJobs}
-use Rattle.rules.specs.Threads.{Thread, Phase, Inactive, Contending, NonContending, with, withJobs, blank, at, scaled, isInactive, isContending, isNon, contends, active, activeIn, sooner, loses, loseAt}
+use Rattle.rules.specs.Limits.{maxJobs}
+use Rattle.rules.specs.Threads.{Thread, Phase, Inactive, Contending, NonContending, with, withJobs, blank, at, scaled, isInactive, isContending, contends, active, activeIn, loseAt}
 use Rattle.rules.specs.Completion.{greater, goesOn, stays, ends, freed, takes, receiver, gives, completing}
 use Rattle.rules.specs.Arrival.{arriveAs, arrive}
 use Rattle.rules.specs.Drop.{headOnly}

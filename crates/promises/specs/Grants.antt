@@ -1,14 +1,13 @@
 -- Every granted tick of a history ends no later than the deadline that it was granted under.
-use mathlib.Core.Path.{_≡_, refl, sym, ap, ap₂, _∙_}
-use mathlib.Core.Bool.{Bool, true, false, cond}
-use mathlib.Core.List.{List, [], _∷_, _++_}
-use Prim.Native.Nat.{ℕ, zero, suc, _+_, _*_, _-_, _≤_, _<_}
+use mathlib.Core.Path.{_≡_, sym, ap, ap₂, _∙_}
+use mathlib.Core.List.{List, [], _∷_}
+use Prim.Native.Nat.{ℕ, zero, suc, _+_, _*_, _-_, _<_}
 use native.Mathlib.Omega.{arith}
 use borrow.Author.Tests.{eqb-false}
 use lib.Dec.{eqb}
-use lib.IntN.{ℤ, pos}
+use lib.IntN.{pos}
 use lib.Signed.{_≤ℤ_}
-use Rattle.integers.specs.Parts.{up, dn, parts-le}
+use Rattle.integers.specs.Parts.{parts-le}
 use Rattle.lists.specs.All.{All, none, more, all-append}
 use Rattle.rules.specs.Limits.{nobody, clockEnd}
 use Rattle.rules.specs.Threads.{State, at}
@@ -18,17 +17,17 @@ use Rattle.rules.specs.Arrival.{arrival}
 use Rattle.rules.specs.Drop.{dropped}
 use Rattle.rules.specs.Choice.{chosen}
 use Rattle.rules.specs.Step.{Stepped, ready, stepped}
-use Rattle.rules.specs.Run.{stateAfter, ran}
+use Rattle.rules.specs.Run.{ran}
 use Rattle.rules.specs.Calls as calls
-use Rattle.rules.specs.Calls.{Call, apply}
-use Rattle.rules.specs.History.{Happening, completed, arrived, dropped-to-head, granted, idle-tick, ifDone, tickAs, tickOf, ticksOf, runAs, happens, history}
+use Rattle.rules.specs.Calls.{Call}
+use Rattle.rules.specs.History.{Happening, completed, arrived, dropped-to-head, ifDone, tickAs, tickOf, ticksOf, runAs, happens, history}
 use Rattle.promises.specs.Cases.{by-test}
 use Rattle.promises.specs.Demand3.{EndsInTime}
 use Rattle.promises.specs.Good.{Good}
 use Rattle.promises.specs.Keep.{fine-at}
 use Rattle.promises.specs.Tick.{Chosen, in-time}
 use Rattle.promises.specs.Unchanged.{SameTable, ready-same, steps-same, call-same}
-use Rattle.promises.specs.Ready.{Ready, ready-ready, ready-beside, chosen-leads}
+use Rattle.promises.specs.Ready.{ready-ready, ready-beside, chosen-leads}
 use Rattle.promises.specs.Always.{steps-good, apply-good}
 
 -- u has the shares of the threads of s

@@ -1,13 +1,13 @@
 -- Changes of the table that keep what holds of its threads: one thread in another's place, a map, a loss of W.
-use mathlib.Core.Path.{_≡_, refl, sym, ap, _∙_, subst}
-use mathlib.Core.Bool.{Bool, true, false, not, cond, _&&_}
+use mathlib.Core.Path.{_≡_, refl, sym, _∙_, subst}
+use mathlib.Core.Bool.{Bool, true, false, cond}
 use mathlib.Core.List.{List}
 use Prim.Native.Nat.{ℕ, zero, suc, _+_, _*_, _-_, _≤_, _<_}
 use native.Mathlib.Nat.{le-refl}
 use native.Mathlib.Omega.{arith}
 use borrow.Author.Tests.{eqb-false}
 use lib.Dec.{T, eqb}
-use lib.IntN.{ℤ, pos, _-ℤ_}
+use lib.IntN.{pos, _-ℤ_}
 use lib.Signed.{ltZ}
 use lib.ListN.{length, take, set, length-set}
 use Rattle.lists.specs.Sum.{sumBy, sum-map, sum-store}
@@ -15,7 +15,7 @@ use Rattle.lists.specs.Take.{sum-put, sum-upd-le, sum-upd, all-upd, sum-map-le,
 use Rattle.lists.specs.MapTo.{mapTo, map-length}
 use Rattle.lists.specs.All.{All, all-at, all-set, all-map}
 use Rattle.rules.specs.Limits.{nobody}
-use Rattle.rules.specs.Threads.{Thread, State, Phase, blank, at, scaled, isInactive, isNon, contends, active, activeIn, idle, loses, loseAt, freeShare, freeOf, earliest}
+use Rattle.rules.specs.Threads.{Thread, State, blank, at, scaled, isNon, contends, active, activeIn, idle, loses, loseAt, freeShare, freeOf}
 use Rattle.rules.specs.Leaving.{leave}
 use Rattle.rules.specs.Fitting.{fit, postpone}
 use Rattle.rules.specs.Charge.{beneficiary, benefits}
@@ -26,7 +26,7 @@ use Rattle.promises.specs.Good.{share, deficit, claim, Fine, Rows, Ahead
 use Rattle.promises.specs.Row.{Fits, fine-leave, fine-fit, fine-loses}
 use Rattle.promises.specs.Claim.{claim-leaves, claim-postponed}
 use Rattle.promises.specs.Deficit.{deficit-leave, deficit-fit}
-use Rattle.integers.specs.Parts.{up, dn, ltZ-false, plus-parts}
+use Rattle.integers.specs.Parts.{ltZ-false, plus-parts}
 
 -- ---- the threads of a table
 module _ {m q t : ℕ} {xs : List Thread} (r : Rows m q t xs) where

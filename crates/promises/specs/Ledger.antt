@@ -7,7 +7,7 @@ use native.Mathlib.Omega.{arith}
 use borrow.Author.Tests.{eqb-true, eqb-false}
 use lib.Dec.{T, eqb, ltb}
 use lib.ListN.{length, take, set}
-use Rattle.lists.specs.All.{All, all-at}
+use Rattle.lists.specs.All.{All}
 use Rattle.lists.specs.Take.{at-put}
 use Rattle.rules.specs.Limits.{maxJobs, nobody, clockEnd}
 use Rattle.rules.specs.Threads.{Thread, State, withRows, blank, at, contends}

@@ -1,12 +1,12 @@
 -- Demand 3 holds, from what holds of every given state.
-use mathlib.Core.Path.{_≡_, refl, sym, ap, _∙_, subst}
+use mathlib.Core.Path.{_≡_, refl, ap, subst}
 use mathlib.Core.List.{List}
 use Prim.Native.Nat.{ℕ, _≤_, _<_}
 use native.Mathlib.Omega.{arith}
 use Rattle.integers.specs.Parts.{parts-le}
 use Rattle.lists.specs.Sum.{sumBy}
 use Rattle.rules.specs.Limits.{maxThreads}
-use Rattle.rules.specs.Threads.{Thread, State, Inactive, at}
+use Rattle.rules.specs.Threads.{Thread, State, at}
 use Rattle.rules.specs.Table.{Table, Done, rowAt, tableAnswer, headAnswer, rowsAnswer, opened, start}
 use Rattle.rules.specs.Calls.{Call}
 use Rattle.rules.specs.History.{noJobs}
@@ -19,7 +19,7 @@ use Rattle.promises.specs.Grants.{Shares, history-in-time}
 use Rattle.promises.specs.Books.{Books, first-books}
 use Rattle.promises.specs.Ledger.{after-books}
 use Rattle.promises.specs.Counted.{moments-counted, ticks-counted, history-fed}
-use Rattle.promises.specs.Demand3.{WithinDeadline, Demand3, shareOf, periodOf, jobsOf, now, past}
+use Rattle.promises.specs.Demand3.{WithinDeadline, Demand3, shareOf, past}
 
 within : {s : State} → Steady s → WithinDeadline s
 within g i h = parts-le _ _ (fine-at (g .rows) i h .ordered)

@@ -1,7 +1,5 @@
 -- What holds between the parts of a step: after leaving, after fitting, and at the choice.
 use mathlib.Core.Path.{_≡_, refl, sym, subst}
-use mathlib.Core.Bool.{Bool, true, false}
-use mathlib.Core.List.{List}
 use Prim.Native.Nat.{ℕ, _-_, _≤_, _<_}
 use native.Mathlib.Omega.{arith}
 use lib.Dec.{T}
@@ -9,7 +7,7 @@ use lib.ListN.{take}
 use Rattle.lists.specs.Sum.{sum-map}
 use Rattle.lists.specs.All.{All, all-at}
 use Rattle.rules.specs.Limits.{maxQ, nobody, clockEnd}
-use Rattle.rules.specs.Threads.{Thread, State, blank, at, contends, freeShare, freeOf}
+use Rattle.rules.specs.Threads.{State, blank, at, contends, freeShare, freeOf}
 use Rattle.rules.specs.Leaving.{gone}
 use Rattle.rules.specs.Fitting.{fitIn, fitted, roomOf}
 use Rattle.rules.specs.Choice.{chosen}

@@ -1,17 +1,17 @@
 -- Each step keeps what holds of one thread.
-use mathlib.Core.Path.{_≡_, refl, sym}
-use mathlib.Core.Bool.{Bool, true, false, not, cond}
+use mathlib.Core.Path.{_≡_, refl}
+use mathlib.Core.Bool.{not, cond}
 use Prim.Native.Nat.{ℕ, _+_, _*_, _-_, _≤_, _<_}
 use native.Mathlib.Omega.{arith}
 use native.Mathlib.Nat.{mul-le-mul-right}
-use borrow.Author.Tests.{ltb-true, ltb-false}
+use borrow.Author.Tests.{ltb-true}
 use lib.Dec.{T, T-not, ltb}
 use lib.IntN.{ℤ, pos, _+ℤ_, _-ℤ_}
 use lib.Signed.{ltZ}
-use Rattle.integers.specs.Parts.{up, dn, _≼_, add-parts, sub-parts, plus-parts, minus-parts, up-clip, dn-clip, one-part, ltZ-true, ltZ-false}
+use Rattle.integers.specs.Parts.{up, dn, _≼_, add-parts, sub-parts, plus-parts, up-clip, dn-clip, one-part, ltZ-true, ltZ-false}
 use Rattle.rules.specs.Limits.{maxJobs}
 use Rattle.rules.specs.Threads.{Thread, Phase, Inactive, Contending, NonContending, with, withJobs, scaled, isInactive, isContending, isNon, contends, active, idle, loses}
-use Rattle.rules.specs.Completion.{greater, goesOn, stays, ends}
+use Rattle.rules.specs.Completion.{goesOn, stays, ends}
 use Rattle.rules.specs.Leaving.{leave}
 use Rattle.rules.specs.Arrival.{arriveAs, arrive}
 use Rattle.rules.specs.Drop.{headOnly}

@@ -15,15 +15,6 @@ unfoldable pub others : ℕ → ℕ → (ℕ → ℕ) → ℕ
 others a zero g = 0
 others a (suc n) g = cond (eqb n a) 0 (g n) + others a n g
 
-pub others-same : (a n : ℕ) (f g : ℕ → ℕ) → ((b : ℕ) → f b ≡ g b) → others a n f ≡ others a n g
-unfolding others
-others-same a zero f g h = refl
-others-same a (suc n) f g h = go (eqb n a) (h n) (others-same a n f g h)
-  where
-    go : (c : Bool) → f n ≡ g n → others a n f ≡ others a n g → cond c 0 (f n) + others a n f ≡ cond c 0 (g n) + others a n g
-    go true e rec = omega arith
-    go false e rec = omega arith
-
 others-add : (a n : ℕ) (f g : ℕ → ℕ) → others a n (λ b. f b + g b) ≡ others a n f + others a n g
 unfolding others
 others-add a zero f g = refl

@@ -1,6 +1,5 @@
 -- How large the numbers of a given state can be: signed 64 bits hold every W, every E and every product of two.
 use mathlib.Core.Path.{_≡_}
-use mathlib.Core.Bool.{Bool}
 use mathlib.Core.List.{List}
 use Prim.Native.Nat.{ℕ, _+_, _*_, _-_, _≤_, _<_, _^_}
 use native.Mathlib.Nat.{mul-le-mul}

@@ -1,15 +1,13 @@
 -- What the code reads off a state: every number in it is small enough for its sums and products.
-use mathlib.Core.Path.{_≡_, refl, sym, ap, _∙_, subst}
-use mathlib.Core.Bool.{Bool, true, false, cond}
-use mathlib.Core.List.{List}
-use Prim.Native.Nat.{ℕ, _+_, _*_, _-_, _≤_, _<_, _^_}
+use mathlib.Core.Path.{_≡_, refl, _∙_}
+use Prim.Native.Nat.{ℕ, _+_, _*_, _≤_, _<_}
 use native.Mathlib.Decide.{ℕ-discrete}
 use native.Mathlib.Nat.{mul-le-mul}
 use native.Mathlib.Omega.{arith}
-use lib.IntN.{pos, _-ℤ_}
+use lib.IntN.{pos}
 use lib.ListN.{length, take, set, length-set}
 use lib.Seq.{getD-set-same, getD-set-other}
-use Rattle.integers.specs.Parts.{up, dn, Small, sub-parts}
+use Rattle.integers.specs.Parts.{Small, sub-parts}
 use Rattle.lists.specs.Sum.{sumBy, sum-le, sum-take-le, sum-store}
 use Rattle.lists.specs.Take.{sum-at}
 use Rattle.lists.specs.All.{all-at}

@@ -1,14 +1,14 @@
 -- What the step knows once it has chosen, and what a run knows at each of its ticks.
 use mathlib.Core.Path.{_≡_, refl, sym, ap, _∙_, subst}
 use mathlib.Core.Bool.{Bool, true, false, cond}
-use mathlib.Core.List.{List, [], _∷_, _++_}
-use Prim.Native.Nat.{ℕ, zero, suc, _+_, _-_, _≤_, _<_}
+use mathlib.Core.List.{List}
+use Prim.Native.Nat.{ℕ, zero, suc, _+_, _≤_, _<_}
 use native.Mathlib.Omega.{arith}
-use borrow.Author.Tests.{eq-eqb, ne-eqb, eqb-false, eqb-true}
+use borrow.Author.Tests.{eq-eqb, ne-eqb, eqb-false}
 use lib.Dec.{eqb}
 use lib.ListN.{length, length-append}
 use Rattle.rules.specs.Limits.{nobody, clockEnd, idleEntry}
-use Rattle.rules.specs.Threads.{State, freeOf, contends}
+use Rattle.rules.specs.Threads.{State, freeOf}
 use Rattle.rules.specs.Leaving.{gone}
 use Rattle.rules.specs.Fitting.{fitted}
 use Rattle.rules.specs.Choice.{chosen, idled}

@@ -1,22 +1,21 @@
 -- A tick keeps what holds of the threads: choice, charge and clock, or an idle tick. On the way: the granted tick ends by its deadline.
-use mathlib.Core.Path.{_≡_, refl, sym, ap, _∙_, subst}
-use mathlib.Core.Bool.{Bool, true, false, not, cond, _&&_}
+use mathlib.Core.Path.{_≡_, refl, ap, _∙_, subst}
+use mathlib.Core.Bool.{not, cond, _&&_}
 use mathlib.Core.List.{List, [], _∷_}
-use Prim.Native.Nat.{ℕ, zero, suc, _+_, _*_, _-_, _≤_, _<_}
-use native.Mathlib.Nat.{le-refl, mul-le-mul-left, mul-le-mul-right, le-of-mul-le-mul-left, lt-of-mul-lt-mul-left, mul-lt-mul-of-pos-left}
+use Prim.Native.Nat.{ℕ, _+_, _*_, _-_, _≤_, _<_}
+use native.Mathlib.Nat.{le-refl, mul-le-mul-left, le-of-mul-le-mul-left, lt-of-mul-lt-mul-left, mul-lt-mul-of-pos-left}
 use native.Mathlib.Omega.{arith}
-use lib.Dec.{T, eqb, leb, nleb→lt}
+use lib.Dec.{T, eqb, nleb→lt}
 use lib.IntN.{ℤ, pos}
-use lib.ListN.{length, take, set, length-set}
+use lib.ListN.{length, take, length-set}
 use Rattle.integers.specs.Parts.{up, dn, minus-parts}
 use Rattle.lists.specs.Sum.{sumBy, sum-map, sum-scale, sum-times}
 use Rattle.lists.specs.Take.{sum-put, sum-upd, sum-gap, all-upd, at-upd, sum-map-le, sum-le-add, sum-add-le}
 use Rattle.lists.specs.MapTo.{mapTo, map-length}
 use Rattle.lists.specs.All.{All, none, more, all-at, all-set, all-map, all-of}
 use Rattle.rules.specs.Limits.{apps}
-use Rattle.rules.specs.Threads.{Thread, State, Phase, Inactive, Contending, NonContending, Amount, blank, at, isInactive, isContending, contends, idle, loses, freeShare, freeOf}
+use Rattle.rules.specs.Threads.{Thread, State, Phase, Inactive, Contending, NonContending, blank, at, isInactive, isContending, contends, idle, loses, freeShare, freeOf}
 use Rattle.rules.specs.Fitting.{roomOf}
-use Rattle.rules.specs.Choice.{idled}
 use Rattle.rules.specs.Charge.{gains, benefits, grown, charged}
 use Rattle.promises.specs.Cases.{test}
 use Rattle.promises.specs.Deadlines.{NotAfter, frac}

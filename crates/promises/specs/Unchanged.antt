@@ -1,5 +1,5 @@
 -- No call changes a thread's application, share or period, nor Q, nor the number of threads.
-use mathlib.Core.Path.{_≡_, refl, sym, ap, _∙_}
+use mathlib.Core.Path.{_≡_, refl, _∙_}
 use mathlib.Core.Bool.{Bool, true, false, cond}
 use mathlib.Core.List.{List, [], _∷_}
 use Prim.Native.Nat.{ℕ, zero, suc, _+_, _-_}
@@ -7,19 +7,19 @@ use lib.Dec.{eqb, ltb}
 use lib.IntN.{ℤ, pos, _-ℤ_}
 use lib.Signed.{ltZ}
 use lib.ListN.{length, set}
-use Rattle.lists.specs.MapTo.{mapTo, map-keeps}
+use Rattle.lists.specs.MapTo.{map-keeps}
 use Rattle.lists.specs.Take.{at-upd}
 use Rattle.rules.specs.Limits.{apps, nobody, maxJobs, clockEnd}
 use Rattle.rules.specs.Threads.{Thread, State, Phase, Inactive, Contending, NonContending, withJobs, blank, at, scaled, isNon, contends, idle, loses, loseAt, freeOf}
 use Rattle.rules.specs.Table.{Answered}
-use Rattle.rules.specs.Completion.{goesOn, stays, ends, freed, receiver, gives, completing, afterCompletion, completion}
+use Rattle.rules.specs.Completion.{goesOn, stays, ends, freed, gives, completing, afterCompletion, completion}
 use Rattle.rules.specs.Leaving.{leave, gone}
-use Rattle.rules.specs.Arrival.{arriveAs, arrive, arrived, arrival}
+use Rattle.rules.specs.Arrival.{arriveAs, arrive, arrival}
 use Rattle.rules.specs.Drop.{headOnly, dropped}
 use Rattle.rules.specs.Fitting.{fit, fitIn, fitted, roomOf}
 use Rattle.rules.specs.Choice.{chosen, idled}
 use Rattle.rules.specs.Charge.{gains, beneficiary, benefits, benefited, charged, moved}
-use Rattle.rules.specs.Step.{Stepped, ready, taken, stepped}
+use Rattle.rules.specs.Step.{Stepped, ready, stepped}
 use Rattle.rules.specs.Run.{Ran, stateAfter, ran}
 use Rattle.rules.specs.Calls as calls
 use Rattle.rules.specs.Calls.{Call, apply, after}

@@ -1,5 +1,5 @@
 -- Document 01, step 3, "Arrivals".
-use mathlib.Core.Bool.{Bool, true, cond}
+use mathlib.Core.Bool.{true, cond}
 use Prim.Native.Nat.{ℕ, _+_}
 use lib.Dec.{ltb}
 use lib.IntN.{_+ℤ_}

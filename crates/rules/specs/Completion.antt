@@ -1,12 +1,12 @@
 -- Document 01, step 1, "Completion": "At most one, by the thread that had the tick just ended."
-use mathlib.Core.Bool.{Bool, true, false, not, cond, _&&_}
+use mathlib.Core.Bool.{Bool, true, not, cond, _&&_}
 use mathlib.Core.List.{List}
 use Prim.Native.Nat.{ℕ, _-_}
 use lib.Dec.{eqb, ltb}
-use lib.IntN.{ℤ, pos, _+ℤ_, _-ℤ_}
+use lib.IntN.{ℤ, _+ℤ_, _-ℤ_}
 use lib.Signed.{ltZ}
 use lib.ListN.{set}
-use Rattle.rules.specs.Threads.{Thread, State, NonContending, with, withJobs, withRows, scaled, at, idle, activeIn, sooner, earliest, loseAt}
+use Rattle.rules.specs.Threads.{Thread, State, NonContending, with, withJobs, scaled, at, idle, activeIn, sooner, earliest, loseAt}
 use Rattle.rules.specs.Table.{Answered, done, refused}
 
 abbrev pub greater : ℤ → ℤ → ℤ

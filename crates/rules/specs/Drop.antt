@@ -1,7 +1,7 @@
 -- Document 01, after the steps: "A drop event leaves a thread only the job at its head; it changes the count of waiting jobs
 -- and nothing else, and a thread with at most one job is unchanged."
-use mathlib.Core.Bool.{Bool, cond}
-use Prim.Native.Nat.{ℕ, min}
+use mathlib.Core.Bool.{cond}
+use Prim.Native.Nat.{ℕ}
 use lib.Dec.{ltb}
 use lib.ListN.{set}
 use Rattle.rules.specs.Threads.{Thread, State, withJobs, withRows, at}

@@ -1,5 +1,5 @@
 -- Document 01, step 4, "Fitting".
-use mathlib.Core.Bool.{Bool, cond}
+use mathlib.Core.Bool.{cond}
 use Prim.Native.Nat.{ℕ, _-_}
 use lib.IntN.{pos, _+ℤ_, _-ℤ_}
 use lib.Signed.{ltZ}

@@ -1,6 +1,6 @@
 -- The history of a sequence of calls, and what document 01 reads off it: each thread's jobs, their lengths, and the dedicated
 -- completion time of each. Demand 3 is stated over these.
-use mathlib.Core.Bool.{Bool, cond}
+use mathlib.Core.Bool.{cond}
 use mathlib.Core.List.{List, [], _∷_, _++_}
 use mathlib.Core.Option.{Option, none, some}
 use Prim.Native.Nat.{ℕ, zero, suc, _+_, _*_, _-_, max}

@@ -1,5 +1,5 @@
 -- Document 01, step 2, "Leaving".
-use mathlib.Core.Bool.{Bool, cond}
+use mathlib.Core.Bool.{cond}
 use Prim.Native.Nat.{ℕ}
 use lib.Signed.{ltZ}
 use Rattle.lists.specs.MapTo.{mapTo}

@@ -1,5 +1,5 @@
 -- Document 01, "The listing": the bytes that the program writes for the bytes that it reads.
-use mathlib.Core.Bool.{Bool, true, false, cond}
+use mathlib.Core.Bool.{true, false, cond}
 use mathlib.Core.List.{List, [], _∷_, _++_}
 use Prim.Native.Nat.{ℕ, zero, suc, _+_, _/_, _%_}
 use Prim.Native.Char.{code}
@@ -8,13 +8,13 @@ use lib.Dec.{ltb}
 use lib.IntN.{ℤ, pos, negsuc}
 use lib.ListN.{length, drop}
 use Rattle.rules.specs.Threads.{State, at}
-use Rattle.rules.specs.Table.{Answer, Done, Refused, first}
+use Rattle.rules.specs.Table.{Answer, Done, Refused}
 use Rattle.rules.specs.Step as tick
 use Rattle.rules.specs.Step.{Outcome, Grant, Idle, ready, stepped}
 use Rattle.rules.specs.Run.{stateAfter}
 use Rattle.rules.specs.Records.{Frame, Ended, Cut, Whole, Record, Decoded, Known, frameOf, bodyOf, decoded}
 use Rattle.rules.specs.Records as records
-use Rattle.rules.specs.Reading.{Reading, Read, fresh, atEvents, inPlace, beforeTicks, ticksBefore, recordRead}
+use Rattle.rules.specs.Reading.{Reading, fresh, atEvents, inPlace, beforeTicks, ticksBefore, recordRead}
 
 -- the bytes of a text of plain characters
 unfoldable pub bytes : String → List ℕ

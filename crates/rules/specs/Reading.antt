@@ -1,6 +1,6 @@
 -- Document 01, "Trace records" and "Refusal numbers": a trace is read record by record. A refused record gives back the
 -- reading before it, so also the schedule before the ticks that were run for it.
-use mathlib.Core.Bool.{Bool, true, false, not, cond, _&&_}
+use mathlib.Core.Bool.{Bool, not, cond, _&&_}
 use mathlib.Core.List.{List}
 use Prim.Native.Nat.{ℕ, _+_, _-_}
 use lib.Dec.{eqb, ltb}

@@ -1,6 +1,6 @@
 -- Document 01: "The caller lends a row of 16-bit numbers for a run: one entry a tick, the thread, or 65,535 for idle; entries
 -- past the run stay. A run to the present clock does nothing."
-use mathlib.Core.Bool.{Bool, cond}
+use mathlib.Core.Bool.{cond}
 use mathlib.Core.List.{List, [], _∷_, _++_}
 use Prim.Native.Nat.{ℕ, zero, suc, _-_}
 use lib.Dec.{ltb}

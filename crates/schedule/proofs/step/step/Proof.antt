@@ -1,6 +1,5 @@
 use mathlib.Core.Path.{sym, ap, _∙_}
 use borrow.Author.Tests.{eq-eqb}
-use Rattle.rules.specs.Threads.{State}
 use Rattle.rules.specs.Step.{stepped}
 use Rattle.promises.specs.Always.{given-good}
 use Rattle.promises.specs.Taken.{By, step-by, had-max}

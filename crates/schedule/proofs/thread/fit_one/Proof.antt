@@ -1,15 +1,13 @@
 use mathlib.Core.Bool.{true}
 use mathlib.Core.Path.{_≡_, sym, _∙_}
-use native.Mathlib.Nat.{le-refl}
-use native.Mathlib.Omega.{arith}
-use lib.Dec.{lit<, lit≤}
+use lib.Dec.{lit<}
 use lib.IntN.{pos, _-ℤ_}
 use lib.Signed.{ltZ}
 use mir.Syntax.{w64}
 use Rattle.integers.specs.Parts.{small-add, small-sub}
 use Rattle.rules.specs.Threads.{isContending}
 use Rattle.rules.specs.Fitting.{fit}
-use Rattle.promises.specs.Sound.{product-small}
+use Rattle.promises.specs.Sound.{period-small}
 use borrow.Author.Needs.{needs}
 use Rattle.schedule.proofs.thread.fit_one.Statement.{statement}
 use Rattle.schedule.proofs.thread.fit_one.Tie as tie
@@ -30,7 +28,7 @@ scaled-requires : tie.Need-scaled-requires
 scaled-requires c κs = search needs
 
 add-requires : tie.Need-add-requires
-add-requires c κs = let s = c .before .before .before .before .before .before .before .before .before in let k = s .pre in rw (c .scaled .ensures) (small-add w64 _ _ (lit< tt) (k .e-small) (product-small (s .args .t .share) (s .args .t .period) 65536 (k .share-max) (k .period-max) (lit≤ tt)))
+add-requires c κs = let s = c .before .before .before .before .before .before .before .before .before in let k = s .pre in rw (c .scaled .ensures) (small-add w64 _ _ (lit< tt) (k .e-small) (period-small k))
 
 -- what `less` tested
 test : (c : tie.After-less) → let t = c .before .before .before .before .before .before .before .args .t in ltZ (t .e .0 -ℤ t .w .0) (pos (c .before .before .before .before .before .before .before .args .room)) ≡ c .less .result
