@@ -26,7 +26,7 @@ pub fn inactive(t: Thread) -> bool
     match p {
         Phase::Inactive => true,
         Phase::Contending => false,
-        Phase::NonContending => false,
+        Phase::NonContending => false, // active, though it has no job
     }
 }
 

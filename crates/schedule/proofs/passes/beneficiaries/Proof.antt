@@ -38,16 +38,16 @@ okay : (c : tie.In-loop Inv-loop μ-loop) → at (c .before .before .args .t1 .t
 okay c = c .before .before .pre .ok (c .before .loop .i) (c .loop-test .taken) .app-max
 
 cast-a : tie.Need-cast-a Inv-loop μ-loop
-cast-a c = let k = okay (c .before .before .before .before) in omega arith
+cast-a c = omega (arith, okay (c .before .before .before .before))
 
 mul-b : tie.Need-mul-b Inv-loop μ-loop
-mul-b c = let k = okay (c .before .before .before .before) in omega arith
+mul-b c = omega (arith, okay (c .before .before .before .before))
 
 array-read-b : tie.Need-array-read-b Inv-loop μ-loop
 array-read-b c = okay (c .before .before .before .before)
 
 mul-f : tie.Need-mul-f Inv-loop μ-loop
-mul-f c = let k = okay (c .before .before .before .before .before) in omega arith
+mul-f c = omega (arith, okay (c .before .before .before .before .before))
 
 array-write-f : tie.Need-array-write-f Inv-loop μ-loop
 array-write-f c = okay (c .before .before .before .before .before)
@@ -62,7 +62,7 @@ found c =
     omega (arith, p .0, e, d .loop-test .taken)
 
 mul-o : tie.Need-mul-o Inv-loop μ-loop
-mul-o c = let h = found c in omega arith
+mul-o c = omega (arith, found c)
 
 element-copy-out-o : tie.Need-element-copy-out-o Inv-loop μ-loop
 element-copy-out-o c = omega (arith, found c, c .before .before .before .before .before .before .before .pre .few)
@@ -71,7 +71,7 @@ earlier-requires : tie.Need-earlier-requires Inv-loop μ-loop
 earlier-requires c κs = let d = c .before .before .before .before .before .before in (d .before .before .pre .ok _ (d .loop-test .taken), d .before .before .pre .ok _ (found (c .before)))
 
 mul-f-2 : tie.Need-mul-f-2 Inv-loop μ-loop
-mul-f-2 c = let k = okay (c .before .before .before .before .before .before .before .before) in omega arith
+mul-f-2 c = omega (arith, okay (c .before .before .before .before .before .before .before .before))
 
 array-write-f-2 : tie.Need-array-write-f-2 Inv-loop μ-loop
 array-write-f-2 c = okay (c .before .before .before .before .before .before .before .before)

@@ -34,10 +34,10 @@ okay c =
     subst RowOk (sym (change-next (fitIn (s .args .s)) (s .args .s) (l .i) (l .inv .1))) (s .pre .0 .ok (l .i) (c .loop-test .taken))
 
 cast-app : tie.Need-cast-app Inv-loop μ-loop
-cast-app c = let k = okay (c .before .before) .app-max in omega arith
+cast-app c = omega (arith, okay (c .before .before) .app-max)
 
 mul-room : tie.Need-mul-room Inv-loop μ-loop
-mul-room c = let k = okay (c .before .before) .app-max in omega arith
+mul-room c = omega (arith, okay (c .before .before) .app-max)
 
 array-read-room : tie.Need-array-read-room Inv-loop μ-loop
 array-read-room c = okay (c .before .before) .app-max

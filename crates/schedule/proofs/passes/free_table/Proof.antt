@@ -40,13 +40,23 @@ inside : (c : tie.In-loop Inv-loop μ-loop) → c .before .loop .i < length (c .
 inside c = omega (arith, c .loop-test .taken, c .before .before .pre .few, c .before .before .pre .long)
 
 cast-a : tie.Need-cast-a Inv-loop μ-loop
-cast-a c = let k = okay (c .before .before .before .before) in omega arith
+cast-a c = omega (arith, okay (c .before .before .before .before))
 
 mul-x : tie.Need-mul-x Inv-loop μ-loop
-mul-x c = let k = okay (c .before .before .before .before) in omega arith
+mul-x c = omega (arith, okay (c .before .before .before .before))
 
 array-read-x : tie.Need-array-read-x Inv-loop μ-loop
-array-read-x c = okay (c .before .before .before .before)
+array-read-x c = omega (arith, okay (c .before .before .before .before))
+
+loop-again : tie.Need-loop-again Inv-loop μ-loop
+loop-again c =
+    let d = c .before .before .before in
+    let l = d .before .loop in
+    let xs = d .before .before .args .t1 .threads in
+    ⊎-elim {C = (l .i + 1 ≤ d .before .before .args .t1 .count) × (length (c .if1 .f) ≡ 16) × Table16 (λ a. free a (l .i + 1) xs) (c .if1 .f)}
+    (λ w. (omega (arith, d .loop-test .taken), rw (w .3) (length-set (l .f) _ _ ∙ l .inv .1), rw (w .3) (free-adds xs (l .i) (l .f) (inside d) (l .inv .1) (okay d) (sym (c .before .inactive .ensures) ∙ w .0 .taken) (l .inv .2))))
+    (λ w. (omega (arith, d .loop-test .taken), rw (w .1) (l .inv .1), rw (w .1) (free-stays xs (l .i) (l .f) (inside d) (sym (c .before .inactive .ensures) ∙ w .0 .left) (l .inv .2))))
+    (c .if1 .came)
 
 -- a free share so far is at most Q
 add-f : tie.Need-add-f Inv-loop μ-loop
@@ -61,26 +71,16 @@ add-f c =
     omega (arith, sym (getD-set-same (d .before .loop .f) a (getD (d .before .loop .f) a 0 + at xs i .share) 0 (omega (arith, okay d, d .before .loop .inv .1))) ∙ v, s .pre .q-max)
 
 mul-f : tie.Need-mul-f Inv-loop μ-loop
-mul-f c = let k = okay (c .before .before .before .before .before) in omega arith
+mul-f c = omega (arith, okay (c .before .before .before .before .before))
 
 array-write-f : tie.Need-array-write-f Inv-loop μ-loop
-array-write-f c = okay (c .before .before .before .before .before)
+array-write-f c = omega (arith, okay (c .before .before .before .before .before))
 
 add-i : tie.Need-add-i Inv-loop μ-loop
 add-i c = omega arith
 
 loop-less : tie.Need-loop-less Inv-loop μ-loop
 loop-less c = omega arith
-
-loop-again : tie.Need-loop-again Inv-loop μ-loop
-loop-again c =
-    let d = c .before .before .before in
-    let l = d .before .loop in
-    let xs = d .before .before .args .t1 .threads in
-    ⊎-elim {C = (l .i + 1 ≤ d .before .before .args .t1 .count) × (length (c .if1 .f) ≡ 16) × Table16 (λ a. free a (l .i + 1) xs) (c .if1 .f)}
-    (λ w. (omega (arith, d .loop-test .taken), rw (w .3) (length-set (l .f) _ _ ∙ l .inv .1), rw (w .3) (free-adds xs (l .i) (l .f) (inside d) (l .inv .1) (okay d) (sym (c .before .inactive .ensures) ∙ w .0 .taken) (l .inv .2))))
-    (λ w. (omega (arith, d .loop-test .taken), rw (w .1) (l .inv .1), rw (w .1) (free-stays xs (l .i) (l .f) (inside d) (sym (c .before .inactive .ensures) ∙ w .0 .left) (l .inv .2))))
-    (c .if1 .came)
 
 returns : tie.Need-returns Inv-loop μ-loop
 returns c = λ a h. c .before .loop .inv .2 a h ∙ ap (λ k. free a k (c .before .before .args .t1 .threads)) (le-antisymm (c .before .loop .inv .0) (c .loop-test .left))

@@ -7,6 +7,7 @@ use native.Mathlib.Omega.{arith}
 use borrow.Author.Tests.{lt-ltb, le-ltb}
 use lib.ListN.{length, set, drop, length-set}
 use Rattle.lists.specs.Row.{row-more}
+use Rattle.rules.specs.Limits.{clockEnd}
 use Rattle.rules.specs.Threads.{State}
 use Rattle.rules.specs.Table.{Done}
 use Rattle.rules.specs.Step.{stepped}
@@ -43,7 +44,7 @@ unfolding stateAfter rowAfter
 loop-holds c = (omega arith, refl, refl, refl)
 
 -- the tick comes before the clock's end
-early : (c : tie.In-loop Inv-loop μ-loop) → stateAfter (c .before .loop .i) (c .before .before .before .before .before .before .before .before .before .before .before .before .args .s) .clock .0 ≡ 2147483647 → ⊥
+early : (c : tie.In-loop Inv-loop μ-loop) → stateAfter (c .before .loop .i) (c .before .before .before .before .before .before .before .before .before .before .before .before .args .s) .clock .0 ≡ clockEnd → ⊥
 early c =
     let s = c .before .before .before .before .before .before .before .before .before .before .before .before .args .s in
     let to = c .before .before .before .before .before .before .before .before .before .before .before .before .args .to .0 in

@@ -1,18 +1,25 @@
 use mathlib.Core.Path.{_≡_, sym, _∙_}
 use lib.Dec.{lit<}
-use lib.IntN.{pos, _*ℤ_}
+use Prim.Native.Nat.{ℕ, _≤_}
+use lib.IntN.{ℤ, pos, _*ℤ_}
 use lib.Signed.{ltZ}
 use mir.Syntax.{w64}
-use Rattle.integers.specs.Parts.{small-times}
+use mir.Val.{SFits}
+use Rattle.integers.specs.Parts.{Small, small-times}
+use Rattle.rules.specs.Limits.{maxQ}
 use borrow.Author.Needs.{needs}
 use Rattle.schedule.proofs.thread.compared.Statement.{statement}
 use Rattle.schedule.proofs.thread.compared.Tie as tie
 
+-- a deadline times a share is small
+fits : (z : ℤ) (u : ℕ) → Small z → u ≤ maxQ → SFits w64 (z *ℤ pos u)
+fits z u = small-times w64 z u (lit< tt)
+
 times-requires : tie.Need-times-requires
-times-requires c κs = small-times w64 (c .args .t .e .0) (c .args .o .share) (lit< tt) (c .pre .0 .e-small) (c .pre .1 .share-max)
+times-requires c κs = search (fits, c .pre .0, c .pre .1)
 
 times-requires-2 : tie.Need-times-requires-2
-times-requires-2 c κs = let s = c .before in small-times w64 (s .args .o .e .0) (s .args .t .share) (lit< tt) (s .pre .1 .e-small) (s .pre .0 .share-max)
+times-requires-2 c κs = search (fits, c .before .pre .0, c .before .pre .1)
 
 less-requires : tie.Need-less-requires
 less-requires c κs = search needs
