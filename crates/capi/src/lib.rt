@@ -206,7 +206,7 @@ fn step_thread(o: Outcome) -> u16
 pub extern "C" fn bollardine_begin(t: Table) -> OutAnswered
     ensures { λ r. ⌜ r ≡ crossed (opening usualPeriod t) ⌝ }
 {
-    answer_out(schedule::table::begin(t))
+    answer_out(tables::begin(t))
 }
 
 #[no_mangle]

@@ -1,9 +1,8 @@
-// The schedule. A caller may call what is in `table`, `events`, `step` and `look`; each function
+// The schedule. A caller may call what is in `events`, `step` and `look`; each function
 // there asks for a given state and no more.
 mod amounts;
 pub mod events;
 pub mod look;
 mod passes;
 pub mod step;
-pub mod table;
 mod thread;

@@ -2,9 +2,9 @@
 -- function's own contract, as the proof of the code reads it, so that a contract weakened later fails here.
 -- κs: lifetimes; a: what is passed; r: the answer; s: what is lent, at the end.
 use mathlib.Core.Path.{_≡_, sym, _∙_}
-use Rattle.schedule.proofs.table.head.Reads as head
-use Rattle.schedule.proofs.table.row.Reads as row
-use Rattle.schedule.proofs.table.begin.Reads as begin
+use Rattle.tables.proofs.head.Reads as head
+use Rattle.tables.proofs.row.Reads as row
+use Rattle.tables.proofs.begin.Reads as begin
 use Rattle.schedule.proofs.events.complete.Reads as complete
 use Rattle.schedule.proofs.events.arrive.Reads as arrive
 use Rattle.schedule.proofs.events.drop_waiting.Reads as drop_waiting

@@ -1,6 +1,6 @@
 use borrow.Author.Needs.{needs}
-use Rattle.schedule.proofs.table.refused.Statement.{statement}
-use Rattle.schedule.proofs.table.refused.Tie as tie
+use Rattle.tables.proofs.refused.Statement.{statement}
+use Rattle.tables.proofs.refused.Tie as tie
 
 no-schedule-requires : tie.Need-no-schedule-requires
 no-schedule-requires c κs = search needs

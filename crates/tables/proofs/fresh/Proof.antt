@@ -1,6 +1,6 @@
 use borrow.Author.Needs.{needs}
-use Rattle.schedule.proofs.table.fresh.Statement.{statement}
-use Rattle.schedule.proofs.table.fresh.Tie as tie
+use Rattle.tables.proofs.fresh.Statement.{statement}
+use Rattle.tables.proofs.fresh.Tie as tie
 
 cast-t2 : tie.Need-cast-t2
 cast-t2 c = search needs

@@ -1,7 +1,7 @@
 use borrow.Author.Tests.{lt-ltb, le-ltb, eq-eqb, ne-eqb}
 use Rattle.rules.specs.Table.{headAnswer}
-use Rattle.schedule.proofs.table.head.Statement.{statement}
-use Rattle.schedule.proofs.table.head.Tie as tie
+use Rattle.tables.proofs.head.Statement.{statement}
+use Rattle.tables.proofs.head.Tie as tie
 
 ruleset tests = (lt-ltb, le-ltb, eq-eqb, ne-eqb)
 

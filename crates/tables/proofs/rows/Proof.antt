@@ -7,8 +7,8 @@ use Rattle.rules.specs.Limits.{usualPeriod}
 use Rattle.rules.specs.Table.{Done, sharesTo, rowsAnswer}
 use Rattle.promises.specs.Begin.{shares-within}
 use Rattle.promises.specs.Admission.{shares-more, rows-more, refusal-stands}
-use Rattle.schedule.proofs.table.rows.Statement.{statement}
-use Rattle.schedule.proofs.table.rows.Tie as tie
+use Rattle.tables.proofs.rows.Statement.{statement}
+use Rattle.tables.proofs.rows.Tie as tie
 
 -- the first i rows are not refused, and `sum` is what their shares come to
 abbrev Inv-loop : tie.InvT-loop

@@ -8,8 +8,8 @@ use Rattle.rules.specs.Limits.{maxThreads, usualPeriod}
 use Rattle.rules.specs.Threads.{withRows}
 use Rattle.rules.specs.Table.{Done, headAnswer, rowsAnswer, tableAnswer, openedTo, start, noSchedule}
 use Rattle.promises.specs.Begin.{both-done, head-admitted, rows-admitted}
-use Rattle.schedule.proofs.table.started.Statement.{statement}
-use Rattle.schedule.proofs.table.started.Tie as tie
+use Rattle.tables.proofs.started.Statement.{statement}
+use Rattle.tables.proofs.started.Tie as tie
 
 -- the first i rows are threads, and nothing else has changed
 abbrev Inv-loop : tie.InvT-loop

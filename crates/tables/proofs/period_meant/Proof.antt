@@ -1,6 +1,6 @@
 use borrow.Author.Tests.{eq-eqb, ne-eqb}
-use Rattle.schedule.proofs.table.period_meant.Statement.{statement}
-use Rattle.schedule.proofs.table.period_meant.Tie as tie
+use Rattle.tables.proofs.period_meant.Statement.{statement}
+use Rattle.tables.proofs.period_meant.Tie as tie
 
 ruleset tests = (eq-eqb, ne-eqb)
 

@@ -4,8 +4,8 @@ use Prim.Native.Nat.{_≤_}
 use native.Mathlib.Nat.{mul-le-mul}
 use native.Mathlib.Omega.{arith}
 use Rattle.rules.specs.Table.{rowAnswer}
-use Rattle.schedule.proofs.table.row.Statement.{statement}
-use Rattle.schedule.proofs.table.row.Tie as tie
+use Rattle.tables.proofs.row.Statement.{statement}
+use Rattle.tables.proofs.row.Tie as tie
 
 ruleset tests = (lt-ltb, le-ltb, eq-eqb, ne-eqb)
 

@@ -3,8 +3,8 @@ use borrow.Author.Needs.{needs}
 use Rattle.rules.specs.Limits.{usualPeriod}
 use Rattle.rules.specs.Table.{Done, headAnswer, tableAnswer, opening}
 use Rattle.promises.specs.Begin.{head-admitted}
-use Rattle.schedule.proofs.table.begin.Statement.{statement}
-use Rattle.schedule.proofs.table.begin.Tie as tie
+use Rattle.tables.proofs.begin.Statement.{statement}
+use Rattle.tables.proofs.begin.Tie as tie
 
 head-requires : tie.Need-head-requires
 head-requires c κs = search needs
