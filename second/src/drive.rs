@@ -109,8 +109,23 @@ fn begin(dice: &mut Dice, seed: u64, figures: &mut Figures) -> Option<Pair> {
             if answered.refusal != number || answered.state != no_schedule() {
                 differ(seed, 0, "table", &format!("refused {} and not {}", answered.refusal, number));
             }
+            without_schedule(seed, answered.state);
             None
         }
+    }
+}
+
+/// What a refused table hands out takes calls too: it has no thread, and its ticks are idle.
+fn without_schedule(seed: u64, s: bollardine::State) {
+    for answered in [bollardine::arrive(s, 0), bollardine::complete(s, 0), bollardine::drop_waiting(s, 0)] {
+        if answered.refusal != 8 || answered.state != s {
+            differ(seed, 0, "no schedule", "a thread is found");
+        }
+    }
+    let stepped = bollardine::step(s);
+    let next = bollardine::State { clock: 1, ..s };
+    if (stepped.refusal, stepped.thread) != (0, IDLE_ENTRY) || stepped.state != next {
+        differ(seed, 0, "no schedule", "a tick is not idle");
     }
 }
 
