@@ -163,11 +163,11 @@ pub fn charge(s: State, c: usize, free: [u32; Table::APPS], best: [usize; Table:
     requires { ⌜ Steady s × (c < s .count) × (s .clock .0 < clockEnd) × Table16 (λ a. freeOf a s) free × Table16 (λ a. beneficiary a s) best ⌝ }
     ensures { λ r. ⌜ r ≡ moved (charged s c) c ⌝ }
 {
-    let t = s.threads[c];
-    let own = t.app as usize;
-    let room = s.q - free[own];
-    let next = Moment(s.clock.0 + 1);
     let mut z = s;
+    let t = z.threads[c];
+    let own = t.app as usize;
+    let room = z.q - free[own];
+    let next = Moment(z.clock.0 + 1);
     let mut a: usize = 0;
     while a < Table::APPS {
         if a != own {

@@ -18,13 +18,13 @@ use Rattle.schedule.proofs.passes.charge.Statement.{statement}
 use Rattle.schedule.proofs.passes.charge.Tie as tie
 
 abbrev Inv-loop : tie.InvT-loop
-Inv-loop c free best own room next z₀ a₀ z a = (a ≤ 16) × (z ≡ withRows z₀ (benefits own z₀ a (z₀ .threads)))
+Inv-loop c free best z₀ own room next a₀ z a = (a ≤ 16) × (z ≡ withRows z₀ (benefits own z₀ a (z₀ .threads)))
 
 abbrev μ-loop : tie.MeasureT-loop
-μ-loop c free best own room next z₀ a₀ z a = 16 - a
+μ-loop c free best z₀ own room next a₀ z a = 16 - a
 
 -- the chosen thread is of an application
-okay : (c : tie.Start Inv-loop μ-loop) → at (c .args .t1 .threads) (c .args .c) .app < 16
+okay : (c : tie.Start Inv-loop μ-loop) → at (c .args .s .threads) (c .args .c) .app < 16
 okay c = sound (c .pre .0) .ok (c .args .c) (c .pre .1) .app-max
 
 mul-t : tie.Need-mul-t Inv-loop μ-loop
@@ -45,8 +45,8 @@ array-read-room c = okay (c .before .before)
 sub-room : tie.Need-sub-room Inv-loop μ-loop
 sub-room c = let s = c .before .before in rw (s .pre .3 _ (okay s)) (free-le _ _ (sound (s .pre .0)) (le-refl _))
 
-add-t25 : tie.Need-add-t25 Inv-loop μ-loop
-add-t25 c = omega (arith, c .before .before .pre .2)
+add-t24 : tie.Need-add-t24 Inv-loop μ-loop
+add-t24 c = omega (arith, c .before .before .pre .2)
 
 loop-holds : tie.Need-loop-holds Inv-loop μ-loop
 unfolding benefits
@@ -59,12 +59,12 @@ array-read-b : tie.Need-array-read-b Inv-loop μ-loop
 array-read-b c = search needs
 
 -- a beneficiary is a thread
-found : (c : tie.Then2 Inv-loop μ-loop) → let s = c .before .before .before .before .before .before in getD (s .args .t4) (c .before .before .before .loop .a) 0 < s .args .t1 .count
+found : (c : tie.Then2 Inv-loop μ-loop) → let s = c .before .before .before .before .before .before in getD (s .args .t4) (c .before .before .before .loop .a) 0 < s .args .s .count
 found c =
     let s = c .before .before .before .before .before .before in
     let a = c .before .before .before .loop .a in
     let e = s .pre .4 a (c .before .before .loop-test .taken) in
-    rw e (earliest-in (activeIn a) (s .args .t1 .count) (s .args .t1 .threads) (λ z. c .if2 .taken (e ∙ z)) .0)
+    rw e (earliest-in (activeIn a) (s .args .s .count) (s .args .s .threads) (λ z. c .if2 .taken (e ∙ z)) .0)
 
 few : (c : tie.Then2 Inv-loop μ-loop) → let s = c .before .before .before .before .before .before in getD (s .args .t4) (c .before .before .before .loop .a) 0 < 64
 few c = omega (arith, found c, c .before .before .before .before .before .before .pre .0 .rows .few)
@@ -90,7 +90,7 @@ lighter-requires c κs =
     let s = d .before .before .before .before .before .before in
     let l = d .before .before .before .loop in
     let k = s .pre .3 (l .a) (d .before .before .loop-test .taken) in
-    let h = free-le (l .a) (s .args .t1 .count) (sound (s .pre .0)) (le-refl _) in
+    let h = free-le (l .a) (s .args .s .count) (sound (s .pre .0)) (le-refl _) in
     let q = s .pre .0 .q-max in
     (rw (l .inv .1) (w-handed _ (l .a) (s .pre .0) _ (found d)), rw (c .amount-of .ensures, k) (record { up-small = omega arith; dn-small = omega arith }))
 
@@ -111,13 +111,13 @@ abbrev Next : (c : tie.Joined1 Inv-loop μ-loop) → Type 0
 Next c =
     let l = c .before .before .loop in
     let s = c .before .before .before .before .before .args in
-    (l .a + 1 ≤ 16) × (c .if1 .z ≡ withRows (s .t1) (benefits (at (s .t1 .threads) (s .c) .app) (s .t1) (l .a + 1) (s .t1 .threads)))
+    (l .a + 1 ≤ 16) × (c .if1 .z ≡ withRows (s .s) (benefits (at (s .s .threads) (s .c) .app) (s .s) (l .a + 1) (s .s .threads)))
 
 loop-again : tie.Need-loop-again Inv-loop μ-loop
 loop-again c =
     let l = c .before .before .loop in
     let s = c .before .before .before .before .before in
-    let z = s .args .t1 in
+    let z = s .args .s in
     let own = at (z .threads) (s .args .c) .app in
     let t = c .before .loop-test .taken in
     let b = getD (s .args .t4) (l .a) 0 in
@@ -176,7 +176,7 @@ charge-spec =
     mul-room
     array-read-room
     sub-room
-    add-t25
+    add-t24
     loop-holds
     mul-b
     array-read-b
