@@ -44,3 +44,10 @@ ran s to row =
       result = done (stateAfter (to - s .clock .0) s);
       row = rowAfter (to - s .clock .0) s ++ drop (to - s .clock .0) row;
     })))
+
+-- the same run where no row is lent, as reading a trace does it: 12, 13
+unfoldable pub passed : State → ℕ → Answered
+passed s to =
+    cond (ltb to (s .clock .0)) (refused 12 s)
+    (cond (ltb clockEnd to) (refused 13 s)
+    (done (stateAfter (to - s .clock .0) s)))

@@ -3,7 +3,7 @@ ghost use mathlib.Core.Path.{_≡_};
 ghost use Prim.Native.Nat.{_≤_};
 ghost use Rattle.rules.specs.Limits.{nobody, clockEnd};
 ghost use Rattle.rules.specs.Step.{stepped};
-ghost use Rattle.rules.specs.Run.{ran};
+ghost use Rattle.rules.specs.Run.{ran, passed};
 ghost use Rattle.rules.specs.Calls.{Given};
 ghost use Rattle.promises.specs.Taken.{entryTo, outcomeTo};
 use crate::passes::beneficiaries;
@@ -79,6 +79,18 @@ pub fn step(s: State) -> Stepped
     }
 }
 
+// The state after one tick, in which who had it stands; at the clock's end the state itself.
+pub fn next(s: State) -> State
+    requires { ⌜ Given s ⌝ }
+    ensures { λ r. ⌜ r ≡ stepped s .state ⌝ }
+{
+    let last = Table::CLOCK_END;
+    if s.clock.0 == last.0 {
+        return s;
+    }
+    tick(s)
+}
+
 // The ticks up to the moment `to`, one entry of the row for each; 12, 13, 17.
 pub fn run(s: State, to: Moment, row: &mut [u16]) -> Answered
     requires { ⌜ Given s ⌝ }
@@ -93,7 +105,7 @@ pub fn run(s: State, to: Moment, row: &mut [u16]) -> Answered
     }
     if to.0 > end.0 {
         return Answered {
-            answer: Answer::Refused(13),
+            answer: Answer::Refused(13), // whatever the row
             state: s,
         };
     }
@@ -114,5 +126,36 @@ pub fn run(s: State, to: Moment, row: &mut [u16]) -> Answered
     Answered {
         answer: Answer::Done,
         state: z,
+    }
+}
+
+// The ticks up to the moment `to`, with no row for them; 12, 13.
+pub fn pass(s: State, to: Moment) -> Answered
+    requires { ⌜ Given s ⌝ }
+    ensures { λ r. ⌜ r ≡ passed s (to .0) ⌝ }
+{
+    let end = Table::CLOCK_END;
+    if to.0 < s.clock.0 {
+        return Answered {
+            answer: Answer::Refused(12),
+            state: s,
+        };
+    }
+    if to.0 > end.0 {
+        return Answered {
+            answer: Answer::Refused(13),
+            state: s,
+        };
+    }
+    let n = (to.0 - s.clock.0) as usize;
+    let mut y = s;
+    let mut k: usize = 0;
+    while k < n {
+        y = tick(y);
+        k += 1;
+    }
+    Answered {
+        answer: Answer::Done,
+        state: y,
     }
 }

@@ -9,7 +9,9 @@ use Rattle.schedule.proofs.events.complete.Reads as complete
 use Rattle.schedule.proofs.events.arrive.Reads as arrive
 use Rattle.schedule.proofs.events.drop_waiting.Reads as drop_waiting
 use Rattle.schedule.proofs.step.step.Reads as step
+use Rattle.schedule.proofs.step.next.Reads as next
 use Rattle.schedule.proofs.step.run.Reads as run
+use Rattle.schedule.proofs.step.pass.Reads as pass
 use Rattle.schedule.proofs.look.free_share.Reads as free_share
 
 -- what equals a rule's answer is one
@@ -37,9 +39,15 @@ drop-one κs a r r' s s' p q = one p q
 pub step-one : (κs : _) (a : _) (r r' : _) (s s' : _) → step.Learnt κs a r s → step.Learnt κs a r' s' → r ≡ r'
 step-one κs a r r' s s' p q = one p q
 
+pub next-one : (κs : _) (a : _) (r r' : _) (s s' : _) → next.Learnt κs a r s → next.Learnt κs a r' s' → r ≡ r'
+next-one κs a r r' s s' p q = one p q
+
 -- the answer and the lent row
 pub run-one : (κs : _) (a : _) (r r' : _) (s s' : _) → run.Learnt κs a r s → run.Learnt κs a r' s' → (r ≡ r') × (s .1 .1 .0 .now ≡ s' .1 .1 .0 .now)
 run-one κs a r r' s s' p q = (one (p .0) (q .0), one (p .1) (q .1))
+
+pub pass-one : (κs : _) (a : _) (r r' : _) (s s' : _) → pass.Learnt κs a r s → pass.Learnt κs a r' s' → r ≡ r'
+pass-one κs a r r' s s' p q = one p q
 
 pub free-share-one : (κs : _) (a : _) (r r' : _) (s s' : _) → free_share.Learnt κs a r s → free_share.Learnt κs a r' s' → r ≡ r'
 free-share-one κs a r r' s s' p q = one p q
