@@ -20,7 +20,7 @@ use Rattle.rules.specs.Drop.{headOnly, dropped}
 use Rattle.rules.specs.Choice.{chosen, idled}
 use Rattle.rules.specs.Charge.{charged, moved}
 use Rattle.rules.specs.Step.{Stepped, taken, stepped}
-use Rattle.rules.specs.Run.{Ran, stateAfter, ran}
+use Rattle.rules.specs.Run.{Ran, stateAfter, ran, passed}
 use Rattle.rules.specs.Calls as calls
 use Rattle.rules.specs.Calls.{Call, apply, after, Given}
 use Rattle.promises.specs.Cases.{by-test, true-false}
@@ -187,6 +187,12 @@ pub given-steps : (n : ℕ) {s : State} → Given s → Given (stateAfter n s)
 unfolding stateAfter
 given-steps zero g = g
 given-steps (suc n) g = given-by (given-steps n g) calls.step
+
+pub given-passed : {s : State} → Given s → (to : ℕ) → Given (passed s to .state)
+unfolding passed
+given-passed {s} g to =
+    by-test (λ (r : Answered). Given (r .state)) (ltb to (s .clock .0)) (λ _. g)
+    (λ _. by-test (λ (r : Answered). Given (r .state)) (ltb clockEnd to) (λ _. g) (λ _. given-steps _ g))
 
 pub given-after : {s : State} → Given s → (cs : List Call) → Given (after s cs)
 unfolding after

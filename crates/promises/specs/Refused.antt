@@ -1,18 +1,20 @@
 -- Demand 1: "A refused call changes neither the schedule nor any lent row."
 use mathlib.Core.Path.{_≡_, refl}
-use mathlib.Core.List.{List}
-use Prim.Native.Nat.{ℕ, _-_}
+use mathlib.Core.Bool.{Bool, true, false, cond}
+use mathlib.Core.List.{List, _++_}
+use Prim.Native.Nat.{ℕ, _-_, _≤_}
+use borrow.Author.Tests.{le-ltb}
 use lib.Dec.{eqb, ltb}
-use lib.ListN.{length}
+use lib.ListN.{length, drop}
 use Rattle.rules.specs.Limits.{nobody, maxJobs, clockEnd}
 use Rattle.rules.specs.Threads.{State, at}
-use Rattle.rules.specs.Table.{Answered, numberOf}
+use Rattle.rules.specs.Table.{Answered, numberOf, done, refused}
 use Rattle.rules.specs.Completion.{completion}
 use Rattle.rules.specs.Arrival.{arrival}
 use Rattle.rules.specs.Drop.{dropped}
 use Rattle.rules.specs.Choice.{chosen}
 use Rattle.rules.specs.Step.{Stepped, stepNumber, ready, stepped}
-use Rattle.rules.specs.Run.{Ran, ran}
+use Rattle.rules.specs.Run.{Ran, unrun, ran, stateAfter, rowAfter, passed}
 use Rattle.rules.specs.Calls as calls
 use Rattle.rules.specs.Calls.{Call, apply, refusalOf}
 use Rattle.promises.specs.Cases.{by-test}
@@ -59,6 +61,19 @@ module _ (s : State) where
     where
       P : Ran → Type 0
       P r = (numberOf (r .result .answer) ≡ 0 → ⊥) → (r .result .state ≡ s) × (r .row ≡ row)
+
+  -- a run without a row is that into any row that is long enough
+  pub passed-ran : (to : ℕ) (row : List ℕ) → to - s .clock .0 ≤ length row → passed s to ≡ ran s to row .result
+  unfolding passed ran
+  passed-ran to row h = rw (le-ltb _ _ h) (go (ltb to (s .clock .0)) (ltb clockEnd to))
+    where
+      n : ℕ
+      n = to - s .clock .0
+
+      go : (b c : Bool) → cond b (refused 12 s) (cond c (refused 13 s) (done (stateAfter n s))) ≡ cond b (unrun 12 s row) (cond c (unrun 13 s row) (record { result = done (stateAfter n s); row = rowAfter n s ++ drop n row })) .result
+      go true c = refl
+      go false true = refl
+      go false false = refl
 
 -- of every state, whatever the call
 pub refused-kept : (c : Call) (s : State) → (refusalOf s c ≡ 0 → ⊥) → apply s c ≡ s

@@ -7,16 +7,19 @@ use native.Mathlib.Decide.{ℕ-discrete}
 use native.Mathlib.Nat.{le-refl}
 use native.Mathlib.Numerals.{add-one}
 use native.Mathlib.Omega.{arith}
-use borrow.Author.Tests.{ne-eqb, eq-eqb}
+use borrow.Author.Tests.{ne-eqb, eq-eqb, eqb-false}
 use lib.Dec.{eqb}
 use lib.IntN.{pos}
 use lib.ListN.{length, getD, set}
 use lib.Seq.{getD-set-same, getD-set-other}
-use Rattle.lists.specs.MapTo.{mapTo, map-none, map-at, map-more}
+use Rattle.lists.specs.MapTo.{mapTo, map-none, map-at, map-has, map-stays, map-more}
 use Rattle.lists.specs.Sum.{sum-none, sum-more}
 use Rattle.rules.specs.Limits.{maxApp, nobody}
-use Rattle.rules.specs.Threads.{Thread, State, blank, at, withRows, isInactive, activeIn, freeShare, free, freeOf, sooner, earliest, loses, loseAt}
+use Rattle.rules.specs.Threads.{Thread, State, blank, at, withRows, isInactive, active, activeIn, freeShare, free, freeOf, sooner, closer, earliest, loses, loseAt}
+use Rattle.rules.specs.Leaving.{leave, gone}
 use Rattle.rules.specs.Charge.{beneficiary, benefits}
+use Rattle.promises.specs.Cases.{by-test}
+use Rattle.promises.specs.Deadlines.{earliest-in}
 use Rattle.promises.specs.Sound.{Sound}
 
 -- ---- every thread changed by f in turn; z is s with the first i of them changed
@@ -31,10 +34,32 @@ module _ (f : Thread → Thread) (s : State) where
   pub change-next : (i : ℕ) {z : State} → Changed i z → at (z .threads) i ≡ at (s .threads) i
   change-next i e = ap (λ (z : State). at (z .threads) i) e ∙ map-at i f (s .threads) i blank (le-refl i)
 
+  -- .. and one that has had its turn is as it will be
+  pub change-had : Sound s → (i k : ℕ) → i ≤ s .count → k < i → {z : State} → Changed i z → at (z .threads) k ≡ at (mapTo (s .count) f (s .threads)) k
+  change-had g i k l h e = ap (λ (z : State). at (z .threads) k) e
+      ∙ map-has i f (s .threads) k blank h (omega (arith, g .few, g .long))
+      ∙ sym (map-has (s .count) f (s .threads) k blank (omega arith) (omega (arith, g .few, g .long)))
+
+  -- the thread whose turn it is, once it is changed, is as it will be
+  pub change-turn : Sound s → (i : ℕ) → i < s .count → {z : State} → Changed i z → (x : Thread) → x ≡ f (at (z .threads) i) → x ≡ at (mapTo (s .count) f (s .threads)) i
+  change-turn g i h e x k = k ∙ ap f (change-next i e) ∙ sym (map-has (s .count) f (s .threads) i blank h (omega (arith, g .few, g .long)))
+
   pub change-more : Sound s → (i : ℕ) → i < s .count → {z : State} → Changed i z → (x : Thread) → x ≡ f (at (z .threads) i) → Changed (i + 1) (withRows z (set (z .threads) i x))
   change-more g i h e x k = ap (λ (z : State). withRows z (set (z .threads) i x)) e
       ∙ ap (λ (y : Thread). withRows s (set (mapTo i f (s .threads)) i y)) (k ∙ ap f (change-next i e))
       ∙ ap (withRows s) (map-more f (s .threads) i blank (omega (arith, g .few, g .long)))
+
+-- leaving as a change of every thread: at a closed moment it changes none
+abbrev pub leaves : State → Thread → Thread
+leaves s x = cond (s .closed) x (leave (s .clock .0) x)
+
+pub gone-is : (s : State) → gone s ≡ withRows s (mapTo (s .count) (leaves s) (s .threads))
+unfolding gone
+gone-is s = go (s .closed)
+  where
+    go : (c : Bool) → cond c s (withRows s (mapTo (s .count) (leave (s .clock .0)) (s .threads))) ≡ withRows s (mapTo (s .count) (λ (x : Thread). cond c x (leave (s .clock .0) x)) (s .threads))
+    go true = ap (withRows s) (sym (map-stays (s .count) (s .threads)))
+    go false = refl
 
 -- ---- a number for each application
 -- the table f has, for each application a, the number that g has for it
@@ -48,10 +73,6 @@ table-more g g' f app v l h inv e same a k = go (ℕ-discrete a app)
     go : Dec (a ≡ app) → getD (set f app v) a 0 ≡ g' a
     go (yes p) = subst (λ b. getD (set f app v) b 0 ≡ g' b) (sym p) (getD-set-same f app v 0 (omega arith) ∙ e)
     go (no n) = getD-set-other f app a v 0 n ∙ inv a k ∙ sym (same a n)
-
--- no number changes
-pub table-same : (g g' : ℕ → ℕ) (f : List ℕ) → Table16 g f → ((a : ℕ) → g' a ≡ g a) → Table16 g' f
-table-same g g' f inv same a k = inv a k ∙ sym (same a)
 
 and-no : (b : Bool) → (b && false) ≡ false
 and-no true = refl
@@ -76,54 +97,60 @@ module _ (xs : List Thread) (i : ℕ) where
       and-other : (b : Bool) → (b && eqb (at xs i .app) a) ≡ false
       and-other b = ap (λ c. b && c) (ne-eqb (at xs i .app) a (λ e. n (sym e))) ∙ and-no b
 
-  -- an inactive row is nobody's beneficiary
-  pub first-inactive : isInactive (at xs i .phase) ≡ true → (a : ℕ) → earliest (activeIn a) (i + 1) xs ≡ earliest (activeIn a) i xs
-  unfolding earliest
-  first-inactive e a = ap (λ k. earliest (activeIn a) k xs) (add-one i) ∙ rw e
-
 -- no thread is of an application that there is not
 pub free-none : {s : State} → Sound s → (a : ℕ) → maxApp < a → (n : ℕ) → n ≤ s .count → free a n (s .threads) ≡ 0
 free-none {s} g a h zero k = sum-none (freeShare a) (s .threads)
 free-none {s} g a h (suc n) k = ap (λ m. free a m (s .threads)) (sym (add-one n)) ∙ free-other (s .threads) n (omega (arith, g .few, g .long)) a (λ e. let o = g .ok n k .app-max in omega arith) ∙ free-none g a h n (omega arith)
 
--- ---- one turn of each pass
-module _ (xs : List Thread) (i : ℕ) (f : List ℕ) where
-  pub free-adds : i < length xs → length f ≡ 16 → at xs i .app < 16 → isInactive (at xs i .phase) ≡ true → Table16 (λ a. free a i xs) f → Table16 (λ a. free a (i + 1) xs) (set f (at xs i .app) (getD f (at xs i .app) 0 + at xs i .share))
-  unfolding freeShare
-  free-adds l n k e inv = table-more (λ a. free a i xs) (λ a. free a (i + 1) xs) f (at xs i .app) _ n k inv (ap (λ r. r + at xs i .share) (inv _ k) ∙ own ∙ sym (sum-more (freeShare (at xs i .app)) xs i blank l)) (free-other xs i l)
-    where
-      own : free (at xs i .app) i xs + at xs i .share ≡ free (at xs i .app) i xs + freeShare (at xs i .app) (at xs i)
-      own = rw (e, eq-eqb (at xs i .app) (at xs i .app) refl)
+-- ---- the earliest so far
+-- the thread with which thread i is compared: b, or i itself where b is nobody
+abbrev pub besideOf : ℕ → ℕ → ℕ
+besideOf b i = cond (eqb b nobody) i b
 
-  pub free-stays : i < length xs → isInactive (at xs i .phase) ≡ false → Table16 (λ a. free a i xs) f → Table16 (λ a. free a (i + 1) xs) f
-  unfolding freeShare
-  free-stays l e inv = table-same (λ a. free a i xs) (λ a. free a (i + 1) xs) f inv (λ a. sum-more (freeShare a) xs i blank l ∙ rw e (omega arith))
+-- b, or i if it passes and b is nobody or has a later deadline
+abbrev pub firstOf : Bool → Thread → Thread → ℕ → ℕ → ℕ
+firstOf c x o b i = cond c (cond (eqb b nobody) i (cond (sooner x o) i b)) b
 
-  pub first-turns : length f ≡ 16 → at xs i .app < 16 → isInactive (at xs i .phase) ≡ false → Table16 (λ a. earliest (activeIn a) i xs) f → (v : ℕ) → v ≡ cond (eqb (getD f (at xs i .app) 0) nobody) i (cond (sooner (at xs i) (at xs (getD f (at xs i .app) 0))) i (getD f (at xs i .app) 0)) → Table16 (λ a. earliest (activeIn a) (i + 1) xs) (set f (at xs i .app) v)
+module _ (p : Thread → Bool) (xs : List Thread) (i b : ℕ) (e : b ≡ earliest p i xs) where
+  pub beside-in : besideOf b i < i + 1
+  beside-in = by-test (λ k. k < i + 1) (eqb b nobody) (λ _. omega arith) (λ n. omega (arith, e, earliest-in p i xs (λ z. eqb-false b nobody n (e ∙ z)) .0))
+
+  pub first-more : (x o : Thread) → x ≡ at xs i → o ≡ at xs (besideOf b i) → firstOf (p x) x o b i ≡ earliest p (i + 1) xs
   unfolding earliest
-  first-turns n k e inv v q = table-more (λ a. earliest (activeIn a) i xs) (λ a. earliest (activeIn a) (i + 1) xs) f (at xs i .app) v n k inv (q ∙ own) (first-other xs i)
+  first-more x o h k = ap (λ (y : Thread). firstOf (p x) x y b i) k
+      ∙ ap (λ (y : Thread). firstOf (p y) y (at xs (besideOf b i)) b i) h
+      ∙ go (eqb b nobody)
+      ∙ ap (λ m. closer p xs m i) e
+      ∙ sym (ap (λ m. earliest p m xs) (add-one i))
     where
-      own : cond (eqb (getD f (at xs i .app) 0) nobody) i (cond (sooner (at xs i) (at xs (getD f (at xs i .app) 0))) i (getD f (at xs i .app) 0)) ≡ earliest (activeIn (at xs i .app)) (i + 1) xs
-      own = rw (add-one, e, eq-eqb (at xs i .app) (at xs i .app) refl, inv (at xs i .app) k)
+      go : (c : Bool) → cond (p (at xs i)) (cond c i (cond (sooner (at xs i) (at xs (cond c i b))) i b)) b ≡ cond (p (at xs i)) (cond c i (cond (sooner (at xs i) (at xs b)) i b)) b
+      go true = refl
+      go false = refl
 
-  -- the beneficiary so far stays
-  pub first-stays : at xs i .app < 16 → (getD f (at xs i .app) 0 ≡ nobody → ⊥) → sooner (at xs i) (at xs (getD f (at xs i .app) 0)) ≡ false → Table16 (λ a. earliest (activeIn a) i xs) f → Table16 (λ a. earliest (activeIn a) (i + 1) xs) f
-  unfolding earliest
-  first-stays k n e inv = table-same (λ a. earliest (activeIn a) i xs) (λ a. earliest (activeIn a) (i + 1) xs) f inv (λ a. go (ℕ-discrete a (at xs i .app)))
-    where
-      app : ℕ
-      app = at xs i .app
+-- ---- one turn of each table; x is the thread whose turn it is, app its application
+module _ (xs : List Thread) (i : ℕ) (f : List ℕ) (long : length f ≡ 16) (x : Thread) (e : x ≡ at xs i) (app : ℕ) (own : app ≡ x .app) (k : app < 16) where
+  other : {a : ℕ} → (a ≡ app → ⊥) → a ≡ at xs i .app → ⊥
+  other n h = n (h ∙ sym (own ∙ ap (λ (y : Thread). y .app) e))
 
-      any : (c : Bool) → cond c (cond (eqb (earliest (activeIn app) i xs) nobody) i (cond (sooner (at xs i) (at xs (earliest (activeIn app) i xs))) i (earliest (activeIn app) i xs))) (earliest (activeIn app) i xs) ≡ earliest (activeIn app) i xs
-      any true = rw (ne-eqb (earliest (activeIn app) i xs) nobody (λ z. n (inv app k ∙ z)), sym (ap (λ b. sooner (at xs i) (at xs b)) (inv app k)) ∙ e)
-      any false = refl
+  with-own : (b : Bool) → b ≡ (b && eqb (x .app) app)
+  with-own true = sym (eq-eqb (x .app) app (sym own))
+  with-own false = refl
 
-      own : earliest (activeIn app) (i + 1) xs ≡ earliest (activeIn app) i xs
-      own = ap (λ m. earliest (activeIn app) m xs) (add-one i) ∙ any (activeIn app (at xs i))
+  pub free-own : i < length xs → Table16 (λ a. free a i xs) f → getD f app 0 + cond (isInactive (x .phase)) (x .share) 0 ≡ free app (i + 1) xs
+  unfolding freeShare
+  free-own l inv = ap (λ r. r + cond (isInactive (x .phase)) (x .share) 0) (inv app k)
+      ∙ ap (λ c. free app i xs + cond c (x .share) 0) (with-own (isInactive (x .phase)))
+      ∙ ap (λ (y : Thread). free app i xs + freeShare app y) e
+      ∙ sym (sum-more (freeShare app) xs i blank l)
 
-      go : {a : ℕ} → Dec (a ≡ app) → earliest (activeIn a) (i + 1) xs ≡ earliest (activeIn a) i xs
-      go (yes p) = subst (λ b. earliest (activeIn b) (i + 1) xs ≡ earliest (activeIn b) i xs) (sym p) own
-      go {a} (no q) = first-other xs i a q
+  pub free-more : i < length xs → Table16 (λ a. free a i xs) f → Table16 (λ a. free a (i + 1) xs) (set f app (getD f app 0 + cond (isInactive (x .phase)) (x .share) 0))
+  free-more l inv = table-more (λ a. free a i xs) (λ a. free a (i + 1) xs) f app _ long k inv (free-own l inv) (λ a n. free-other xs i l a (other n))
+
+  pub best-more : (o : Thread) → o ≡ at xs (besideOf (getD f app 0) i) → Table16 (λ a. earliest (activeIn a) i xs) f → Table16 (λ a. earliest (activeIn a) (i + 1) xs) (set f app (firstOf (active x) x o (getD f app 0) i))
+  best-more o h inv =
+      table-more (λ a. earliest (activeIn a) i xs) (λ a. earliest (activeIn a) (i + 1) xs) f app _ long k inv
+      (ap (λ c. firstOf c x o (getD f app 0) i) (with-own (active x)) ∙ first-more (activeIn app) xs i (getD f app 0) (inv app k) x o e h)
+      (λ a n. first-other xs i a (other n))
 
 -- ---- one turn of the handing out
 module _ (own a : ℕ) (s : State) (xs : List Thread) where

@@ -7,18 +7,20 @@ use native.Mathlib.Omega.{arith}
 use borrow.Author.Tests.{eq-eqb, ne-eqb, eqb-false}
 use lib.Dec.{eqb}
 use lib.ListN.{length, length-append}
+use Rattle.lists.specs.MapTo.{mapTo}
 use Rattle.rules.specs.Limits.{nobody, clockEnd, idleEntry}
-use Rattle.rules.specs.Threads.{State, freeOf}
+use Rattle.rules.specs.Threads.{Thread, State, withRows, contends, activeIn, free, freeOf, earliest}
 use Rattle.rules.specs.Leaving.{gone}
-use Rattle.rules.specs.Fitting.{fitted}
+use Rattle.rules.specs.Fitting.{fitIn, fitted}
 use Rattle.rules.specs.Choice.{chosen, idled}
-use Rattle.rules.specs.Charge.{charged, moved}
+use Rattle.rules.specs.Charge.{beneficiary, charged, moved}
 use Rattle.rules.specs.Step.{Outcome, Grant, Idle, Stepped, ready, taken, stepped}
 use Rattle.rules.specs.Run.{entryOf, stateAfter, rowAfter}
 use Rattle.promises.specs.Cases.{by-test}
 use Rattle.promises.specs.Good.{Good}
-use Rattle.promises.specs.Ready.{Steady, Ready, ready-beside, ready-ready, fitted-free, before-end, chosen-leads}
-use Rattle.promises.specs.Tables.{Table16}
+use Rattle.promises.specs.Ready.{Steady, Ready, gone-beside, ready-beside, gone-good, fitted-steady, ready-ready, fitted-free, before-end, chosen-leads}
+use Rattle.promises.specs.Sound.{Sound, sound}
+use Rattle.promises.specs.Tables.{Changed, leaves, gone-is, Table16}
 
 -- the answer and the entry of a tick, by who had it
 abbrev pub outcomeTo : ℕ → Outcome
@@ -57,6 +59,40 @@ module _ (s : State) (early : s .clock .0 ≡ clockEnd → ⊥) where
   pub step-by : stepped s ≡ By (stepped s .state)
   step-by = subst (λ (r : Stepped). r ≡ By (r .state)) (sym step-is) (taken-by (ready s) (chosen (ready s)))
 
+-- ---- once those that leave have left; f has the free shares
+pub record Left (s l : State) (f : List ℕ) : Type 0 where
+  pub good : Good s
+  pub left : l ≡ gone s
+  pub free : Table16 (λ a. freeOf a l) f
+
+module _ {s z : State} {f : List ℕ} (g : Good s) (i : ℕ) (all : i ≡ s .count) (e : Changed (leaves s) s i z) where
+  pub left-all : Table16 (λ a. free a i (gone s .threads)) f → Left s z f
+  left-all t = record {
+    good = g;
+    left = is-gone;
+    free = λ a h. t a h ∙ ap (λ k. free a k (gone s .threads)) (all ∙ sym (gone-beside s .count)) ∙ sym (ap (λ z. freeOf a z) is-gone);
+  }
+    where
+      is-gone : z ≡ gone s
+      is-gone = e ∙ ap (λ k. withRows s (mapTo k (leaves s) (s .threads))) all ∙ sym (gone-is s)
+
+module _ {s l : State} {f : List ℕ} (c : Left s l f) where
+  l-steady : Steady l
+  l-steady = rw (c .left) (gone-good (c .good) .0)
+
+  pub l-sound : Sound l
+  l-sound = sound l-steady
+
+  pub l-count : l .count ≡ s .count
+  l-count = ap (λ (z : State). z .count) (c .left) ∙ gone-beside s .count
+
+  pub l-q : l .q ≡ s .q
+  l-q = ap (λ (z : State). z .q) (c .left) ∙ gone-beside s .q
+
+  -- every thread as it is once it fits
+  pub fit-sound : Sound (fitted l)
+  fit-sound = sound (fitted-steady l-steady)
+
 -- ---- from the choice on
 pub record Chose (s l z : State) (b : ℕ) : Type 0 where
   pub good : Good s
@@ -64,6 +100,21 @@ pub record Chose (s l z : State) (b : ℕ) : Type 0 where
   pub left : l ≡ gone s
   pub fit : z ≡ fitted l
   pub best : b ≡ chosen z
+
+module _ {s l z : State} {f : List ℕ} (c : Left s l f) (i : ℕ) (all : i ≡ l .count) (e : Changed (fitIn l) l i z) where
+  is-fitted : z ≡ fitted l
+  unfolding fitted
+  is-fitted = e ∙ ap (λ k. withRows l (mapTo k (fitIn l) (l .threads))) all
+
+  same : (p : Thread → Bool) → earliest p i (fitted l .threads) ≡ earliest p (z .count) (z .threads)
+  unfolding fitted
+  same p = ap (λ k. earliest p k (fitted l .threads)) all ∙ sym (ap (λ (z : State). earliest p (z .count) (z .threads)) is-fitted)
+
+  pub fit-all : (s .clock .0 ≡ clockEnd → ⊥) → (b : ℕ) → b ≡ earliest contends i (fitted l .threads) → Chose s l z b
+  fit-all h b k = record { good = c .good; early = h; left = c .left; fit = is-fitted; best = k ∙ same contends }
+
+  pub best-all : (r : List ℕ) → Table16 (λ a. earliest (activeIn a) i (fitted l .threads)) r → Table16 (λ a. beneficiary a z) r
+  best-all r t a h = t a h ∙ same (activeIn a)
 
 module _ {s l z : State} {b : ℕ} (c : Chose s l z b) where
   pub z-ready : Ready z

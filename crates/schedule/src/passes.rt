@@ -4,8 +4,7 @@ ghost use Prim.Native.Nat.{_<_};
 ghost use Rattle.rules.specs.Limits.{nobody, clockEnd};
 ghost use Rattle.rules.specs.Threads.{freeOf};
 ghost use Rattle.rules.specs.Leaving.{gone};
-ghost use Rattle.rules.specs.Fitting.{fitted};
-ghost use Rattle.rules.specs.Choice.{chosen, idled};
+ghost use Rattle.rules.specs.Choice.{idled};
 ghost use Rattle.rules.specs.Charge.{beneficiary, charged, moved};
 ghost use Rattle.promises.specs.Ready.{Steady};
 ghost use Rattle.promises.specs.Sound.{Sound};
@@ -13,12 +12,9 @@ ghost use Rattle.promises.specs.Tables.{Table16};
 use crate::amounts::add;
 use crate::amounts::amount_of;
 use crate::thread::at_rest;
-use crate::thread::contends;
-use crate::thread::earlier;
-use crate::thread::fit_one;
-use crate::thread::inactive;
 use crate::thread::left;
 use crate::thread::lighter;
+use crate::thread::spare;
 use quantities::Moment;
 use quantities::State;
 use quantities::Table;
@@ -54,83 +50,9 @@ pub fn free_table(s: State) -> [u32; Table::APPS]
     let mut i: usize = 0;
     while i < n {
         let t = s.threads[i];
-        if inactive(t) {
-            let a = t.app as usize;
-            let x = f[a];
-            f[a] = x + t.share;
-        }
-        i += 1;
-    }
-    f
-}
-
-// Step 4.
-pub fn fitting(s: State, free: [u32; Table::APPS]) -> State
-    requires { ⌜ Sound s × Table16 (λ a. freeOf a s) free ⌝ }
-    ensures { λ r. ⌜ r ≡ fitted s ⌝ }
-{
-    let n = s.count;
-    let q = s.q;
-    let mut z = s;
-    let mut i: usize = 0;
-    while i < n {
-        let t = z.threads[i];
-        let app = t.app as usize;
-        let room = q - free[app];
-        let u = fit_one(t, room);
-        z.threads[i] = u;
-        i += 1;
-    }
-    z
-}
-
-// Step 5: who has the tick, or NOBODY.
-pub fn choose(s: State) -> usize
-    requires { ⌜ Sound s ⌝ }
-    ensures { λ r. ⌜ r ≡ chosen s ⌝ }
-{
-    let n = s.count;
-    let mut b: usize = Table::NOBODY;
-    let mut i: usize = 0;
-    while i < n {
-        let t = s.threads[i];
-        if contends(t) {
-            if b == Table::NOBODY {
-                b = i;
-            } else {
-                let o = s.threads[b];
-                if earlier(t, o) {
-                    b = i;
-                }
-            }
-        }
-        i += 1;
-    }
-    b
-}
-
-// For each application its active thread with the earliest deadline, or NOBODY.
-pub fn beneficiaries(s: State) -> [usize; Table::APPS]
-    requires { ⌜ Sound s ⌝ }
-    ensures { λ r. ⌜ Table16 (λ a. beneficiary a s) r ⌝ }
-{
-    let n = s.count;
-    let mut f = [Table::NOBODY; Table::APPS];
-    let mut i: usize = 0;
-    while i < n {
-        let t = s.threads[i];
-        if !inactive(t) {
-            let a = t.app as usize;
-            let b = f[a];
-            if b == Table::NOBODY {
-                f[a] = i;
-            } else {
-                let o = s.threads[b];
-                if earlier(t, o) {
-                    f[a] = i;
-                }
-            }
-        }
+        let a = t.app as usize;
+        let x = f[a];
+        f[a] = x + spare(t);
         i += 1;
     }
     f

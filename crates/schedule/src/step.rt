@@ -6,13 +6,15 @@ ghost use Rattle.rules.specs.Step.{stepped};
 ghost use Rattle.rules.specs.Run.{ran, passed};
 ghost use Rattle.rules.specs.Calls.{Given};
 ghost use Rattle.promises.specs.Taken.{entryTo, outcomeTo};
-use crate::passes::beneficiaries;
 use crate::passes::charge;
-use crate::passes::choose;
-use crate::passes::fitting;
-use crate::passes::free_table;
 use crate::passes::idle_tick;
-use crate::passes::leaving;
+use crate::thread::beside;
+use crate::thread::contends;
+use crate::thread::first;
+use crate::thread::fit_one;
+use crate::thread::is_active;
+use crate::thread::left_unless;
+use crate::thread::spare;
 use quantities::Answer;
 use quantities::Answered;
 use quantities::Moment;
@@ -21,19 +23,51 @@ use quantities::State;
 use quantities::Stepped;
 use quantities::Table;
 
-// The state after one tick before the clock's end; who had it stands in the state.
+// The state after one tick before the clock's end; who had it stands in the state. Steps 2, 4 and 5
+// are loops of one function, since a state that goes from function to function is copied.
 fn tick(s: State) -> State
     requires { ⌜ Given s × (s .clock .0 ≡ clockEnd → ⊥) ⌝ }
     ensures { λ r. ⌜ r ≡ stepped s .state ⌝ }
 {
-    let l = leaving(s);
-    let free = free_table(l);
-    let z = fitting(l, free);
-    let b = choose(z);
+    let n = s.count;
+    let q = s.q;
+    let now = s.clock;
+    let closed = s.closed;
+    let mut z = s;
+    let mut free = [0u32; Table::APPS];
+    let mut i: usize = 0;
+    // step 2, and the free share of each application after it
+    while i < n {
+        let x = z.threads[i];
+        let t = left_unless(closed, x, now);
+        z.threads[i] = t;
+        let a = t.app as usize;
+        let r = free[a];
+        free[a] = r + spare(t);
+        i += 1;
+    }
+    let mut b: usize = Table::NOBODY;
+    let mut best = [Table::NOBODY; Table::APPS];
+    let mut j: usize = 0;
+    // step 4, and of those that fit by now who would be chosen (5) and who would benefit (6)
+    while j < n {
+        let x = z.threads[j];
+        let a = x.app as usize;
+        let room = q - free[a];
+        let t = fit_one(x, room);
+        z.threads[j] = t;
+        let k = beside(b, j);
+        let o = z.threads[k];
+        b = first(contends(t), t, o, b, j);
+        let f = best[a];
+        let m = beside(f, j);
+        let p = z.threads[m];
+        best[a] = first(is_active(t), t, p, f, j);
+        j += 1;
+    }
     if b == Table::NOBODY {
         return idle_tick(z);
     }
-    let best = beneficiaries(z);
     charge(z, b, free, best)
 }
 

@@ -1,12 +1,14 @@
 // One thread by value, for the modules beside this one alone.
 ghost use mathlib.Core.Path.{_≡_};
+ghost use mathlib.Core.Bool.{cond};
 ghost use Prim.Native.Nat.{_≤_};
 ghost use Rattle.integers.specs.Parts.{Small};
 ghost use Rattle.rules.specs.Limits.{maxQ};
-ghost use Rattle.rules.specs.Threads.{isInactive, isContending, idle, compare, sooner, loses};
+ghost use Rattle.rules.specs.Threads.{isInactive, isContending, active, idle, compare, sooner, loses};
 ghost use Rattle.rules.specs.Leaving.{leave};
 ghost use Rattle.rules.specs.Fitting.{fit};
 ghost use Rattle.promises.specs.Sound.{RowOk};
+ghost use Rattle.promises.specs.Tables.{besideOf, firstOf};
 use crate::amounts::add;
 use crate::amounts::amount_of;
 use crate::amounts::less;
@@ -17,6 +19,7 @@ use quantities::Amount;
 use quantities::Moment;
 use quantities::Order;
 use quantities::Phase;
+use quantities::Table;
 use quantities::Thread;
 
 pub fn inactive(t: Thread) -> bool
@@ -39,6 +42,22 @@ pub fn contends(t: Thread) -> bool
         Phase::Contending => true,
         Phase::NonContending => false,
     }
+}
+
+pub fn is_active(t: Thread) -> bool
+    ensures { λ r. ⌜ r ≡ active t ⌝ }
+{
+    !inactive(t)
+}
+
+// What the thread adds to the free share of its application.
+pub fn spare(t: Thread) -> u32
+    ensures { λ r. ⌜ r ≡ cond (isInactive (t .phase)) (t .share) 0 ⌝ }
+{
+    if inactive(t) {
+        return t.share;
+    }
+    0
 }
 
 // The thread, inactive.
@@ -73,6 +92,17 @@ pub fn left(t: Thread, now: Moment) -> Thread
             }
         }
     }
+}
+
+// Step 2 for one thread, unless the moment is closed.
+pub fn left_unless(closed: bool, t: Thread, now: Moment) -> Thread
+    requires { ⌜ t .share ≤ maxQ ⌝ }
+    ensures { λ r. ⌜ r ≡ cond closed t (leave (now .0) t) ⌝ }
+{
+    if closed {
+        return t;
+    }
+    left(t, now)
 }
 
 // Step 4 for one thread; room is Q − r of its application.
@@ -118,6 +148,33 @@ pub fn earlier(t: Thread, o: Thread) -> bool
         Order::Equal => false,
         Order::Later => false,
     }
+}
+
+// The thread with whose deadline that of thread i is compared: b, or i itself where b is nobody.
+pub fn beside(b: usize, i: usize) -> usize
+    ensures { λ r. ⌜ r ≡ besideOf b i ⌝ }
+{
+    if b == Table::NOBODY {
+        return i;
+    }
+    b
+}
+
+// The earliest so far, b, or thread i: i if it passes and b is nobody or has a later deadline. t and
+// o are the threads i and b.
+pub fn first(passes: bool, t: Thread, o: Thread, b: usize, i: usize) -> usize
+    requires { ⌜ RowOk t × RowOk o ⌝ }
+    ensures { λ r. ⌜ r ≡ firstOf passes t o b i ⌝ }
+{
+    if passes {
+        if b == Table::NOBODY {
+            return i;
+        }
+        if earlier(t, o) {
+            return i;
+        }
+    }
+    b
 }
 
 // d less of W.

@@ -1,14 +1,12 @@
-use mathlib.Core.Logic.{⊎-elim}
 use mathlib.Core.Path.{_≡_, refl, sym, _∙_, ap}
 use Prim.Native.Nat.{_≤_, _<_, _-_, _+_}
 use native.Mathlib.Nat.{le-antisymm}
 use native.Mathlib.Omega.{arith}
-use lib.ListN.{length, getD, length-set, getD-replicate}
-use lib.Seq.{getD-set-same}
+use lib.ListN.{length, length-set, getD-replicate}
 use Rattle.lists.specs.Sum.{sum-none}
 use Rattle.rules.specs.Threads.{at, free, freeShare}
 use Rattle.promises.specs.Sound.{free-le}
-use Rattle.promises.specs.Tables.{Table16, free-adds, free-stays}
+use Rattle.promises.specs.Tables.{Table16, free-own, free-more}
 use borrow.Author.Needs.{needs}
 use Rattle.schedule.proofs.passes.free_table.Statement.{statement}
 use Rattle.schedule.proofs.passes.free_table.Tie as tie
@@ -28,9 +26,6 @@ mul-t c = search needs
 element-copy-out-t : tie.Need-element-copy-out-t Inv-loop μ-loop
 element-copy-out-t c = omega (arith, c .before .before .pre .few)
 
-inactive-requires : tie.Need-inactive-requires Inv-loop μ-loop
-inactive-requires c κs = search needs
-
 -- the thread at i is of an application
 okay : (c : tie.In-loop Inv-loop μ-loop) → at (c .before .before .args .t1 .threads) (c .before .loop .i) .app < 16
 okay c = c .before .before .pre .ok (c .before .loop .i) (c .loop-test .taken) .app-max
@@ -40,41 +35,40 @@ inside : (c : tie.In-loop Inv-loop μ-loop) → c .before .loop .i < length (c .
 inside c = omega (arith, c .loop-test .taken, c .before .before .pre .few, c .before .before .pre .long)
 
 cast-a : tie.Need-cast-a Inv-loop μ-loop
-cast-a c = omega (arith, okay (c .before .before .before .before))
+cast-a c = omega (arith, okay (c .before .before))
 
 mul-x : tie.Need-mul-x Inv-loop μ-loop
-mul-x c = omega (arith, okay (c .before .before .before .before))
+mul-x c = omega (arith, okay (c .before .before))
 
 array-read-x : tie.Need-array-read-x Inv-loop μ-loop
-array-read-x c = omega (arith, okay (c .before .before .before .before))
+array-read-x c = omega (arith, okay (c .before .before))
+
+spare-requires : tie.Need-spare-requires Inv-loop μ-loop
+spare-requires c κs = search needs
 
 loop-again : tie.Need-loop-again Inv-loop μ-loop
 loop-again c =
     let d = c .before .before .before in
     let l = d .before .loop in
     let xs = d .before .before .args .t1 .threads in
-    ⊎-elim {C = (l .i + 1 ≤ d .before .before .args .t1 .count) × (length (c .if1 .f) ≡ 16) × Table16 (λ a. free a (l .i + 1) xs) (c .if1 .f)}
-    (λ w. (omega (arith, d .loop-test .taken), rw (w .3) (length-set (l .f) _ _ ∙ l .inv .1), rw (w .3) (free-adds xs (l .i) (l .f) (inside d) (l .inv .1) (okay d) (sym (c .before .inactive .ensures) ∙ w .0 .taken) (l .inv .2))))
-    (λ w. (omega (arith, d .loop-test .taken), rw (w .1) (l .inv .1), rw (w .1) (free-stays xs (l .i) (l .f) (inside d) (sym (c .before .inactive .ensures) ∙ w .0 .left) (l .inv .2))))
-    (c .if1 .came)
+    let x = at xs (l .i) in
+    (omega (arith, d .loop-test .taken), length-set (l .f) _ _ ∙ l .inv .1, rw (c .spare .ensures) (free-more xs (l .i) (l .f) (l .inv .1) x refl (x .app) refl (okay d) (inside d) (l .inv .2)))
 
 -- a free share so far is at most Q
 add-f : tie.Need-add-f Inv-loop μ-loop
 add-f c =
-    let d = c .before .before .before .before .before in
+    let d = c .before .before .before in
+    let l = d .before .loop in
     let s = d .before .before in
-    let xs = s .args .t1 .threads in
-    let i = d .before .loop .i in
-    let a = at xs i .app in
-    let b = free-le a (i + 1) (s .pre) (omega (arith, d .loop-test .taken)) in
-    let v = free-adds xs i (d .before .loop .f) (inside d) (d .before .loop .inv .1) (okay d) (sym (c .before .before .before .inactive .ensures) ∙ c .before .before .if1 .taken) (d .before .loop .inv .2) a (okay d) in
-    omega (arith, sym (getD-set-same (d .before .loop .f) a (getD (d .before .loop .f) a 0 + at xs i .share) 0 (omega (arith, okay d, d .before .loop .inv .1))) ∙ v, s .pre .q-max)
+    let x = at (s .args .t1 .threads) (l .i) in
+    let v = free-own (s .args .t1 .threads) (l .i) (l .f) (l .inv .1) x refl (x .app) refl (okay d) (inside d) (l .inv .2) in
+    omega (arith, c .spare .ensures, v, free-le (x .app) (l .i + 1) (s .pre) (omega (arith, d .loop-test .taken)), s .pre .q-max)
 
 mul-f : tie.Need-mul-f Inv-loop μ-loop
-mul-f c = omega (arith, okay (c .before .before .before .before .before))
+mul-f c = omega (arith, okay (c .before .before .before))
 
 array-write-f : tie.Need-array-write-f Inv-loop μ-loop
-array-write-f c = omega (arith, okay (c .before .before .before .before .before))
+array-write-f c = omega (arith, okay (c .before .before .before))
 
 add-i : tie.Need-add-i Inv-loop μ-loop
 add-i c = omega arith
@@ -94,10 +88,10 @@ free-table-spec =
     loop-holds
     mul-t
     element-copy-out-t
-    inactive-requires
     cast-a
     mul-x
     array-read-x
+    spare-requires
     add-f
     mul-f
     array-write-f
