@@ -23,8 +23,8 @@ MODULES = [
     ("rules.specs.Step", "stepped"),
     ("rules.specs.Run", "stateAfter rowAfter ran"),
     ("rules.specs.Records", "frameOf decoded"),
-    ("rules.specs.Reading", "beforeTicks eventRead recordRead read"),
-    ("rules.specs.Listing", "bytes digits line heading tickLine tickLines ending linesBefore listFrom listing"),
+    ("rules.specs.Reading", "beforeTicks ticksDue eventRead recordRead read"),
+    ("rules.specs.Listing", "bytes digits line heading tickLine tickLines ending listFrom listing"),
 ]
 
 

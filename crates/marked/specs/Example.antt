@@ -19,12 +19,13 @@ use Rattle.rules.specs.Fitting.{fit, fitted}
 use Rattle.rules.specs.Choice.{idled}
 use Rattle.rules.specs.Charge.{benefits, charged, moved}
 use Rattle.rules.specs.Step.{Outcome, stepped}
-use Rattle.rules.specs.Run.{stateAfter, rowAfter, ran}
+use Rattle.rules.specs.Run.{stateAfter, rowAfter, ran, passed}
 use Rattle.rules.specs.Calls.{Call, apply, refusalOf, after}
 use Rattle.rules.specs.History.{Happening, Finished, tickOf, ticksOf, history, account}
 use Rattle.rules.specs.Records.{Frame, Decoded, frameOf, decoded}
-use Rattle.rules.specs.Reading.{beforeTicks, eventRead, recordRead, read}
-use Rattle.rules.specs.Listing.{bytes, digits, line, heading, tickLine, tickLines, ending, linesBefore, listFrom, listing}
+use Rattle.rules.specs.Reading.{beforeTicks, ticksDue, eventRead, recordRead, read}
+use Rattle.rules.specs.Input.{readFrom, readInput}
+use Rattle.rules.specs.Listing.{bytes, digits, line, heading, tickLine, tickLines, ending, listFrom, listing}
 
 -- one thing that is seen; of a thread its phase, its jobs, W and E; of the moment its number, who had the tick just ended, and
 -- whether a completion and whether an arrival was accepted at it
@@ -104,5 +105,5 @@ tableRefusal t = numberOf (tableSays t)
 
 -- what the rules give is what is stated, by computing with all the rules
 unfoldable pub Holds : Example → Type 0
-unfolding sumBy mapTo freeShare earliest loseAt headAnswer rowAnswer sharesTo rowsAnswer tableAnswer openedTo start opening gives completing afterCompletion completion leave gone arrivals.arrive arrival headOnly dropped fit fitted idled benefits charged moved stepped stateAfter rowAfter ran after tickOf ticksOf history account frameOf decoded beforeTicks eventRead recordRead read bytes digits line heading tickLine tickLines ending linesBefore listFrom listing views refusals
+unfolding sumBy mapTo freeShare earliest loseAt headAnswer rowAnswer sharesTo rowsAnswer tableAnswer openedTo start opening gives completing afterCompletion completion leave gone arrivals.arrive arrival headOnly dropped fit fitted idled benefits charged moved stepped stateAfter rowAfter ran passed after tickOf ticksOf history account frameOf decoded beforeTicks ticksDue eventRead recordRead read readFrom readInput bytes digits line heading tickLine tickLines ending listFrom listing views refusals
 Holds (example name given stated) = given ≡ stated

@@ -7,12 +7,13 @@ use lib.IntN.{pos}
 use Rattle.lists.specs.All.{All, none, more}
 use Rattle.rules.specs.Limits.{nobody, usualPeriod}
 use Rattle.rules.specs.Threads.{State, Inactive, Contending, NonContending, amt}
-use Rattle.rules.specs.Table.{Table, headAnswer, rowAnswer}
+use Rattle.rules.specs.Table.{Table, Answered, headAnswer, rowAnswer}
 use Rattle.rules.specs.Fitting.{fit}
-use Rattle.rules.specs.Run.{ran}
+use Rattle.rules.specs.Run.{ran, passed}
 use Rattle.rules.specs.Calls.{complete, arrive, drop, step, run, after}
 use Rattle.rules.specs.Records.{Completion, moment}
 use Rattle.rules.specs.Reading.{Reading, recordRead}
+use Rattle.rules.specs.Input.{InputRead, readInput}
 use Rattle.rules.specs.Listing.{bytes, listing}
 use Rattle.marked.specs.Example.{Seen, number, thread, facts, entries, Example, example, Holds, minus, row, tableOf, begin, tableRefusal, see, showing, shown, says, refusals}
 use Rattle.marked.specs.Worked.{two, headRecord, rowRecord, arrivalRecord, completionRecord, runRecord, dropRecord}
@@ -429,6 +430,35 @@ back-before-the-ticks = example "back-before-the-ticks"
     ∷ showing (recordRead small-reading (Completion (moment 2) 0) .reading .state))
     (number 9 ∷ facts 0 nobody false false ∷ thread Inactive 0 (pos 0) (pos 0) ∷ [])
 
+-- what an input and a run without a row answer
+abbrev read-to : InputRead → List Seen
+read-to x = says (x .answer) ∷ number (x .at) ∷ number (x .reading .state .clock .0) ∷ []
+
+abbrev passed-to : Answered → List Seen
+passed-to x = says (x .answer) ∷ number (x .state .clock .0) ∷ []
+
+abbrev small-state : State
+small-state = begin (tableOf 1 1 (row 0 1 1 ∷ []))
+
+-- Inputs: the answer, the byte that it is given at, and the clock of the reading up to there. An input read to its end; one
+-- whose last record is refused at its moment, after two ticks that are not kept; one that ends before its row, and inside it.
+abbrev inputs-read : Example
+inputs-read = example "inputs-read"
+    (read-to (readInput (smallTable ++ arrivalRecord 0 0 ++ runRecord 2))
+    ++ read-to (readInput (smallTable ++ arrivalRecord 1 0 ++ completionRecord 3 0 ++ completionRecord 3 0 ++ runRecord 9))
+    ++ read-to (readInput (smallTable ++ runRecord 1 ++ completionRecord 3 0))
+    ++ read-to (readInput (headRecord 1 1)) ++ read-to (readInput (headRecord 1 1 ++ two 10 ++ two 2))
+    ++ read-to (readInput (smallTable ++ two 8 ++ two 3)) ++ [])
+    (number 0 ∷ number 38 ∷ number 2 ∷ number 9 ∷ number 40 ∷ number 3 ∷ number 9 ∷ number 28 ∷ number 1
+    ∷ number 14 ∷ number 8 ∷ number 0 ∷ number 14 ∷ number 8 ∷ number 0 ∷ number 14 ∷ number 20 ∷ number 0 ∷ [])
+
+-- Runs without a row: two ticks, none, and refused 12 and 13.
+abbrev passes : Example
+passes = example "passes"
+    (passed-to (passed small-state 2) ++ passed-to (passed (passed small-state 2 .state) 2)
+    ++ passed-to (passed (passed small-state 2 .state) 1) ++ passed-to (passed small-state 2147483648))
+    (number 0 ∷ number 2 ∷ number 0 ∷ number 2 ∷ number 12 ∷ number 2 ∷ number 13 ∷ number 0 ∷ [])
+
 pub telling : List Example
 telling =
     goes-on-later
@@ -487,6 +517,8 @@ telling =
     ∷ drop-in-a-trace
     ∷ negative-listed
     ∷ back-before-the-ticks
+    ∷ inputs-read
+    ∷ passes
     ∷ []
 
 pub telling-hold : All Holds telling
@@ -548,4 +580,6 @@ telling-hold =
     more {x = drop-in-a-trace} refl (
     more {x = negative-listed} refl (
     more {x = back-before-the-ticks} refl (
-    none))))))))))))))))))))))))))))))))))))))))))))))))))))))))
+    more {x = inputs-read} refl (
+    more {x = passes} refl (
+    none))))))))))))))))))))))))))))))))))))))))))))))))))))))))))

@@ -145,3 +145,27 @@ pub struct Read {
     pub answer: Answer,
     pub reading: Reading,
 }
+
+// What an input held whole gives: the answer, the byte at which the refused record starts or the
+// input ends, and the reading up to there.
+pub struct InputRead {
+    pub answer: Answer,
+    pub at: usize,
+    pub reading: Reading,
+}
+
+// A listing while it is written: the reading, the byte at which the next record starts, and
+// whether the last line is written.
+pub struct Progress {
+    pub reading: Reading,
+    pub place: u64,
+    pub done: bool,
+}
+
+// What a call of the listing answers: how many bytes of the window it took, how many bytes of the
+// output it wrote, and the progress.
+pub struct Turn {
+    pub taken: usize,
+    pub written: usize,
+    pub progress: Progress,
+}

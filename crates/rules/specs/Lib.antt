@@ -15,3 +15,4 @@ pub mod History
 pub mod Records
 pub mod Reading
 pub mod Listing
+pub mod Input

@@ -14,7 +14,7 @@ use Rattle.rules.specs.Step.{Outcome, Grant, Idle, ready, stepped}
 use Rattle.rules.specs.Run.{stateAfter}
 use Rattle.rules.specs.Records.{Frame, Ended, Cut, Whole, Record, Decoded, Known, frameOf, bodyOf, decoded}
 use Rattle.rules.specs.Records as records
-use Rattle.rules.specs.Reading.{Reading, fresh, atEvents, inPlace, beforeTicks, ticksBefore, recordRead}
+use Rattle.rules.specs.Reading.{Reading, fresh, atEvents, ticksDue, recordRead}
 
 -- the bytes of a text of plain characters
 unfoldable pub bytes : String → List ℕ
@@ -45,15 +45,21 @@ unfoldable pub heading : List ℕ
 heading = bytes "tick thread app deadline virtual\n"
 
 -- "Each line: tick, thread, application, E after fitting, W after the charge; an idle tick has four dashes."
+abbrev pub grantLine : ℕ → ℕ → ℕ → ℤ → ℤ → List ℕ
+grantLine t j a e w = line (decimal t ∷ decimal j ∷ decimal a ∷ signed e ∷ signed w ∷ [])
+
+abbrev pub idleLine : ℕ → List ℕ
+idleLine t = line (decimal t ∷ bytes "-" ∷ bytes "-" ∷ bytes "-" ∷ bytes "-" ∷ [])
+
 abbrev pub tickLineAs : Outcome → State → List ℕ
-tickLineAs (Grant i) s = line (
-    decimal (s .clock .0)
-    ∷ decimal i
-    ∷ decimal (at (ready s .threads) i .app)
-    ∷ signed (at (ready s .threads) i .e .0)
-    ∷ signed (at (stepped s .state .threads) i .w .0)
-    ∷ [])
-tickLineAs Idle s = line (decimal (s .clock .0) ∷ bytes "-" ∷ bytes "-" ∷ bytes "-" ∷ bytes "-" ∷ [])
+tickLineAs (Grant i) s =
+    grantLine
+    (s .clock .0)
+    i
+    (at (ready s .threads) i .app)
+    (at (ready s .threads) i .e .0)
+    (at (stepped s .state .threads) i .w .0)
+tickLineAs Idle s = idleLine (s .clock .0)
 tickLineAs (tick.Refused n) s = []
 
 -- the line of the tick taken in the state s
@@ -79,12 +85,8 @@ ending r b = cond (atEvents r) (endLine (r .state .clock .0)) (refusalLine 14 b)
 
 -- "The program runs and lists the ticks before a record's moment, then applies it." "Ticks listed before an event that is then
 -- refused 9 to 11 stay listed."
-abbrev pub linesAs : Answer → Reading → Record → List ℕ
-linesAs Done r e = tickLines (ticksBefore (r .state) e) (r .state)
-linesAs (Refused n) r e = []
-
-unfoldable pub linesBefore : Reading → Record → List ℕ
-linesBefore r e = cond (inPlace r e) (linesAs (beforeTicks (r .state) e) r e) []
+abbrev pub linesBefore : Reading → Record → List ℕ
+linesBefore r e = tickLines (ticksDue r e) (r .state)
 
 -- how the listing goes on, from a reading, the byte that it has come to and the rest of the input
 abbrev pub Rest : Type 0

@@ -104,6 +104,14 @@ atItsMoment s (Drop m i) = dropped s i
 abbrev pub eventOf : State → Record → Answered
 eventOf s e = atItsMoment (stateAfter (ticksBefore s e) s) e
 
+-- how many ticks are run for a record that is in its place, and not refused before them
+abbrev pub dueAs : Answer → ℕ → ℕ
+dueAs Done n = n
+dueAs (Refused m) n = 0
+
+unfoldable pub ticksDue : Reading → Record → ℕ
+ticksDue r e = cond (inPlace r e) (dueAs (beforeTicks (r .state) e) (ticksBefore (r .state) e)) 0
+
 abbrev pub withState : Reading → State → Reading
 withState r s = record { table = r .table; rows = r .rows; state = s }
 
