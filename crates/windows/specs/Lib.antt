@@ -1,0 +1,13 @@
+pub mod Frames
+pub mod Ticks
+pub mod Fuel
+pub mod Advance
+pub mod Feeding
+pub mod Goes
+pub mod Lines
+pub mod Readings
+pub mod Inputs
+pub mod Progresses
+pub mod Along
+pub mod Plain
+pub mod Witness
