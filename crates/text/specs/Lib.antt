@@ -1,0 +1,5 @@
+pub mod Put
+pub mod Room
+pub mod Digits
+pub mod Lines
+pub mod Laws
