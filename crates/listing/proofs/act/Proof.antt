@@ -1,0 +1,186 @@
+use borrow.Author.Needs.{needs}
+use mathlib.Core.Path.{_≡_, sym, ap, _∙_, subst}
+use mathlib.Core.Bool.{Bool, true, false}
+use mathlib.Core.List.{List}
+use Prim.Native.Nat.{ℕ, _+_, _-_, _≤_, _<_, _^_}
+use native.Mathlib.Omega.{arith}
+use lib.ListN.{length, drop, length-drop}
+use Rattle.rules.specs.Records.{Frame, Ended, Cut, Whole, frameOf}
+use Rattle.promises.specs.Sound.{given-sound}
+use Rattle.windows.specs.Advance.{longest, farthest}
+use Rattle.windows.specs.Frames.{at-most}
+use Rattle.windows.specs.Inputs.{rest-part, whole-within}
+use Rattle.windows.specs.Readings.{given-reading}
+use Rattle.listing.specs.declared.Acted.{Acted}
+use Rattle.listing.specs.Acts.{stay-acts, stop-acts, ending-acts}
+use Rattle.listing.specs.Moves.{stays-done, stays-full, stays-far, stays-ended, moves-ended, stays-cut, moves-cut, moves-wide}
+use Rattle.listing.specs.Way.{Open, ActedTo}
+use Rattle.listing.proofs.act.Statement.{statement}
+use Rattle.listing.proofs.act.Tie as tie
+
+stay-requires : tie.Need-stay-requires
+stay-requires c κs = search needs
+
+returns : tie.Need-returns
+returns c =
+    let s = c .before .before .before .before in
+    subst (ActedTo (s .args .last) (s .args .w .now) (s .args .out .now) (s .args .at) (s .args .used) (s .args .p) (s .args .out .now)) (sym (c .stay .ensures)) (stay-acts (s .args .last) (s .args .w .now) (s .args .out .now) (s .args .at) (s .args .used) (s .args .p) (s .pre .0) (s .pre .1) (s .pre .2) (stays-done (s .args .last) (length (s .args .out .now) - s .args .used) (s .args .p) (drop (s .args .at) (s .args .w .now)) (c .before .if1 .taken)))
+
+sub-if2 : tie.Need-sub-if2
+sub-if2 c = search needs
+
+stay-requires-2 : tie.Need-stay-requires-2
+stay-requires-2 c κs = search needs
+
+returns-2 : tie.Need-returns-2
+returns-2 c =
+    let s = c .before .before .before .before .before in
+    subst (ActedTo (s .args .last) (s .args .w .now) (s .args .out .now) (s .args .at) (s .args .used) (s .args .p) (s .args .out .now)) (sym (c .stay2 .ensures)) (stay-acts (s .args .last) (s .args .w .now) (s .args .out .now) (s .args .at) (s .args .used) (s .args .p) (s .pre .0) (s .pre .1) (s .pre .2) (stays-full (s .args .last) (length (s .args .out .now) - s .args .used) (s .args .p) (drop (s .args .at) (s .args .w .now)) (c .before .before .if1 .left) (c .before .if2 .taken)))
+
+stay-requires-3 : tie.Need-stay-requires-3
+stay-requires-3 c κs = search needs
+
+returns-3 : tie.Need-returns-3
+returns-3 c =
+    let s = c .before .before .before .before .before .before .before in
+    subst (ActedTo (s .args .last) (s .args .w .now) (s .args .out .now) (s .args .at) (s .args .used) (s .args .p) (s .args .out .now)) (sym (c .stay3 .ensures)) (stay-acts (s .args .last) (s .args .w .now) (s .args .out .now) (s .args .at) (s .args .used) (s .args .p) (s .pre .0) (s .pre .1) (s .pre .2) (stays-far (s .args .last) (length (s .args .out .now) - s .args .used) (s .args .p) (drop (s .args .at) (s .args .w .now)) (c .before .before .before .before .if1 .left) (omega (arith, c .before .before .before .if2 .left)) (c .before .if3 .taken)))
+
+-- a move can be made
+ready : (c : tie.Else3) → Open (c .before .before .before .before .before .before .args .w .now) (c .before .before .before .before .before .before .args .out .now) (c .before .before .before .before .before .before .args .at) (c .before .before .before .before .before .before .args .used) (c .before .before .before .before .before .before .args .p)
+ready c =
+    let s = c .before .before .before .before .before .before in
+    record { given = s .pre .0; undone = c .before .before .before .if1 .left; near = c .if3 .left; within = s .pre .1; room = omega (arith, s .pre .2, c .before .before .if2 .left) }
+
+sub-frame : tie.Need-sub-frame
+sub-frame c = search needs
+
+part-frame-start : tie.Need-part-frame-start
+part-frame-start c = search needs
+
+part-frame-end : tie.Need-part-frame-end
+part-frame-end c = search needs
+
+frame-requires : tie.Need-frame-requires
+frame-requires c κs = search needs
+
+-- what stands at the start of the rest of the window
+framed : (c : tie.After-frame) → c .frame .result ≡ frameOf (drop (c .before .before .before .before .before .before .before .before .args .at) (c .before .before .before .before .before .before .before .before .args .w .now))
+framed c = c .frame .ensures .0 ∙ ap frameOf (rest-part (c .before .before .before .before .before .before .before .before .args .w .now) (c .before .before .before .before .before .before .before .before .args .at))
+
+enum-told : tie.Need-enum-told
+enum-told c = search needs
+
+finish-requires : tie.Need-finish-requires
+finish-requires c κs = search needs
+
+same-length : tie.Need-same-length
+same-length c = search needs
+
+returns-4 : tie.Need-returns-4
+returns-4 c =
+    let s = c .before .before .before .before .before .before .before .before .before .before .before .before .before .before .before in
+    let o = ready (c .before .before .before .before .before .before .before .before .before) in
+    let t = given-sound (given-reading (s .pre .0) .given) .time in
+    subst (ActedTo (s .args .last) (s .args .w .now) (s .args .out .now) (s .args .at) (s .args .used) (s .args .p) (c .before .before .finish .last .0)) (sym (c .before .before .finish .ensures .0))
+    (rw (c .before .before .finish .ensures .1) (ending-acts (s .args .last) (s .args .w .now) (s .args .out .now) (s .args .at) (s .args .used) (s .args .p) o (omega (arith, t)) (omega (arith, o .near)) (moves-ended (s .args .last) (length (s .args .out .now) - s .args .used) (s .args .p) (drop (s .args .at) (s .args .w .now)) (o .undone) (omega (arith, o .room)) (o .near) (sym (framed (c .before .before .before .before .before .before .before)) ∙ c .before .before .before .before .before .enum-told .given .1) (c .before .before .before .before .if4 .taken))))
+
+stay-requires-4 : tie.Need-stay-requires-4
+stay-requires-4 c κs = search needs
+
+enum-told-2 : tie.Need-enum-told-2
+enum-told-2 c = search needs
+
+stop-requires : tie.Need-stop-requires
+stop-requires c κs = search needs
+
+same-length-2 : tie.Need-same-length-2
+same-length-2 c = search needs
+
+returns-5 : tie.Need-returns-5
+returns-5 c =
+    let s = c .before .before .before .before .before .before .before .before .before .before .before .before .before .before .before in
+    let o = ready (c .before .before .before .before .before .before .before .before .before) in
+    subst (ActedTo (s .args .last) (s .args .w .now) (s .args .out .now) (s .args .at) (s .args .used) (s .args .p) (c .before .before .stop .last .0)) (sym (c .before .before .stop .ensures .0))
+    (rw (c .before .before .stop .ensures .1) (stop-acts (s .args .last) (s .args .w .now) (s .args .out .now) (s .args .at) (s .args .used) (s .args .p) o 14 (omega arith) (moves-cut (s .args .last) (length (s .args .out .now) - s .args .used) (s .args .p) (drop (s .args .at) (s .args .w .now)) (o .undone) (omega (arith, o .room)) (o .near) (sym (framed (c .before .before .before .before .before .before .before)) ∙ c .before .before .before .before .before .enum-told2 .given .1) (c .before .before .before .before .if5 .taken)) (omega (arith, o .near))))
+
+sub-if6 : tie.Need-sub-if6
+sub-if6 c = search needs
+
+stop-requires-2 : tie.Need-stop-requires-2
+stop-requires-2 c κs = search needs
+
+same-length-3 : tie.Need-same-length-3
+same-length-3 c = search needs
+
+returns-6 : tie.Need-returns-6
+returns-6 c =
+    let s = c .before .before .before .before .before .before .before .before .before .before .before .before .before .before .before .before in
+    let o = ready (c .before .before .before .before .before .before .before .before .before .before) in
+    subst (ActedTo (s .args .last) (s .args .w .now) (s .args .out .now) (s .args .at) (s .args .used) (s .args .p) (c .before .before .stop2 .last .0)) (sym (c .before .before .stop2 .ensures .0))
+    (rw (c .before .before .stop2 .ensures .1) (stop-acts (s .args .last) (s .args .w .now) (s .args .out .now) (s .args .at) (s .args .used) (s .args .p) o 14 (omega arith) (moves-wide (s .args .last) (length (s .args .out .now) - s .args .used) (s .args .p) (drop (s .args .at) (s .args .w .now)) (o .undone) (omega (arith, o .room)) (o .near) (sym (framed (c .before .before .before .before .before .before .before .before)) ∙ c .before .before .before .before .before .before .enum-told2 .given .1) (c .before .before .before .before .before .if5 .left) (omega (arith, c .before .before .before .before .if6 .taken, length-drop (s .args .at) (s .args .w .now)))) (omega (arith, o .near))))
+
+stay-requires-5 : tie.Need-stay-requires-5
+stay-requires-5 c κs = search needs
+
+enum-known-f : tie.Need-enum-known-f
+enum-known-f c = search needs
+
+whole-requires : tie.Need-whole-requires
+whole-requires c κs =
+    let s = c .before .before .before .before .before .before .before .before .before .before .before .before in
+    let f = c .before .before .before .before in
+    let e = sym (framed f) ∙ c .before .before .f .given .1 in
+    let h = whole-within _ _ _ e in
+    (ready (c .before .before .before .before .before .before), record { is = e; least = h .0; most = at-most (c .before .before .f .given .1) (f .frame .ensures .1); within = omega (arith, h .1, length-drop (s .args .at) (s .args .w .now), s .pre .1) })
+
+returns-7 : tie.Need-returns-7
+returns-7 c =
+    let s = c .before .before .before .before .before .before .before .before .before .before .before .before in
+    subst (ActedTo (s .args .last) (s .args .w .now) (s .args .out .now) (s .args .at) (s .args .used) (s .args .p) (s .args .out .now)) (sym (c .stay4 .ensures)) (stay-acts (s .args .last) (s .args .w .now) (s .args .out .now) (s .args .at) (s .args .used) (s .args .p) (s .pre .0) (s .pre .1) (s .pre .2) (let o = ready (c .before .before .before .before .before .before) in stays-ended (s .args .last) (length (s .args .out .now) - s .args .used) (s .args .p) (drop (s .args .at) (s .args .w .now)) (o .undone) (omega (arith, o .room)) (o .near) (sym (framed (c .before .before .before .before)) ∙ c .before .before .enum-told .given .1) (c .before .if4 .left)))
+
+returns-8 : tie.Need-returns-8
+returns-8 c =
+    let s = c .before .before .before .before .before .before .before .before .before .before .before .before .before in
+    subst (ActedTo (s .args .last) (s .args .w .now) (s .args .out .now) (s .args .at) (s .args .used) (s .args .p) (s .args .out .now)) (sym (c .stay5 .ensures)) (stay-acts (s .args .last) (s .args .w .now) (s .args .out .now) (s .args .at) (s .args .used) (s .args .p) (s .pre .0) (s .pre .1) (s .pre .2) (let o = ready (c .before .before .before .before .before .before .before) in stays-cut (s .args .last) (length (s .args .out .now) - s .args .used) (s .args .p) (drop (s .args .at) (s .args .w .now)) (o .undone) (omega (arith, o .room)) (o .near) (sym (framed (c .before .before .before .before .before)) ∙ c .before .before .before .enum-told2 .given .1) (c .before .before .if5 .left) (omega (arith, c .before .if6 .left, length-drop (s .args .at) (s .args .w .now)))))
+
+same-length-4 : tie.Need-same-length-4
+same-length-4 c = search needs
+
+returns-9 : tie.Need-returns-9
+returns-9 c = c .before .before .whole .ensures .any (c .before .before .before .before .before .before .before .before .before .before .before .before .before .before .before .args .last)
+
+pub act-spec : {M : Type 1} → statement M
+act-spec =
+    tie.close
+    (tie.spec
+    stay-requires
+    returns
+    sub-if2
+    stay-requires-2
+    returns-2
+    stay-requires-3
+    returns-3
+    sub-frame
+    part-frame-start
+    part-frame-end
+    frame-requires
+    enum-told
+    finish-requires
+    same-length
+    returns-4
+    stay-requires-4
+    enum-told-2
+    stop-requires
+    same-length-2
+    returns-5
+    sub-if6
+    stop-requires-2
+    same-length-3
+    returns-6
+    stay-requires-5
+    enum-known-f
+    whole-requires
+    returns-7
+    returns-8
+    same-length-4
+    returns-9)

@@ -1,0 +1,5 @@
+pub mod Way
+pub mod Moves
+pub mod Listed
+pub mod Swept
+pub mod Acts
