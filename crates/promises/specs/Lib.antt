@@ -25,3 +25,4 @@ pub mod Proved
 pub mod Sound
 pub mod Tables
 pub mod Taken
+pub mod Idle

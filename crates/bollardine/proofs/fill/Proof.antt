@@ -1,0 +1,89 @@
+use borrow.Author.Needs.{needs}
+use Rattle.bollardine.specs.Shell.{good-stopped}
+use Rattle.bollardine.proofs.fill.Statement.{statement}
+use Rattle.bollardine.proofs.fill.Tie as tie
+
+returns : tie.Need-returns
+returns c = search needs
+
+returns-2 : tie.Need-returns-2
+returns-2 c = search needs
+
+sub-kept : tie.Need-sub-kept
+sub-kept c = search needs
+
+shift-requires : tie.Need-shift-requires
+shift-requires c κs = search needs
+
+sub-read : tie.Need-sub-read
+sub-read c = search needs
+
+part-read-start : tie.Need-part-read-start
+part-read-start c = search needs
+
+part-read-end : tie.Need-part-read-end
+part-read-end c = search needs
+
+read-requires : tie.Need-read-requires
+read-requires c κs = search needs
+
+slice-aggregate-fail : tie.Need-slice-aggregate-fail
+slice-aggregate-fail c = search needs
+
+fail-requires : tie.Need-fail-requires
+fail-requires c κs = search needs
+
+ended-requires : tie.Need-ended-requires
+ended-requires c κs = search needs
+
+same-length : tie.Need-same-length
+same-length c = search needs
+
+returns-3 : tie.Need-returns-3
+returns-3 c = good-stopped (c .before .before .before .before .before .before .before .before .before .before .before .before .before .before .before .before .before .pre) (c .ended .ensures)
+
+sub-count : tie.Need-sub-count
+sub-count c = search needs
+
+part-count-start : tie.Need-part-count-start
+part-count-start c = search needs
+
+part-count-end : tie.Need-part-count-end
+part-count-end c = search needs
+
+count-requires : tie.Need-count-requires
+count-requires c κs = search needs
+
+add-t14 : tie.Need-add-t14
+add-t14 c = search needs
+
+same-length-2 : tie.Need-same-length-2
+same-length-2 c = search needs
+
+returns-4 : tie.Need-returns-4
+returns-4 c = search needs
+
+pub fill-spec : {M : Type 1} → statement M
+fill-spec =
+    tie.close
+    (tie.spec
+    returns
+    returns-2
+    sub-kept
+    shift-requires
+    sub-read
+    part-read-start
+    part-read-end
+    read-requires
+    slice-aggregate-fail
+    fail-requires
+    ended-requires
+    same-length
+    returns-3
+    sub-count
+    part-count-start
+    part-count-end
+    count-requires
+    add-t14
+    same-length-2
+    returns-4)

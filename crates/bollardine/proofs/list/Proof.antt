@@ -1,0 +1,95 @@
+use mathlib.Core.Path.{_≡_, refl, sym, _∙_, subst}
+use Prim.Native.Nat.{ℕ, _-_, _≤_}
+use native.Mathlib.Omega.{arith}
+use lib.ListN.{length}
+use Rattle.windows.specs.Advance.{GivenProgress}
+use Rattle.windows.specs.Progresses.{given-begun}
+use Rattle.bollardine.specs.Shell.{Good}
+use borrow.Author.Needs.{needs}
+use Rattle.bollardine.proofs.list.Statement.{statement}
+use Rattle.bollardine.proofs.list.Tie as tie
+
+abbrev Inv-loop : tie.InvT-loop
+Inv-loop fd buf₀ out₀ s₀ n₀ buf out s n = (length buf ≡ length buf₀) × (length out ≡ length out₀) × Good (length buf) s
+
+abbrev μ-loop : tie.MeasureT-loop
+μ-loop fd buf₀ out₀ s₀ n₀ buf out s n = 18446744073709551615 - n
+
+heading-requires : tie.Need-heading-requires Inv-loop μ-loop
+heading-requires c κs = search needs
+
+slice-aggregate-fail : tie.Need-slice-aggregate-fail Inv-loop μ-loop
+slice-aggregate-fail c = search needs
+
+fail-requires : tie.Need-fail-requires Inv-loop μ-loop
+fail-requires c κs = search needs
+
+same-length : tie.Need-same-length Inv-loop μ-loop
+same-length c = search needs
+
+returns : tie.Need-returns Inv-loop μ-loop
+returns c = search needs
+
+begin-requires : tie.Need-begin-requires Inv-loop μ-loop
+begin-requires c κs = search needs
+
+loop-holds : tie.Need-loop-holds Inv-loop μ-loop
+loop-holds c = (refl, refl, record { ordered = omega arith; within = omega arith; given = subst GivenProgress (sym (c .begin .ensures)) given-begun })
+
+turn-requires : tie.Need-turn-requires Inv-loop μ-loop
+turn-requires c κs = c .before .before .before .before .loop .inv .2
+
+add-n : tie.Need-add-n Inv-loop μ-loop
+add-n c = record { fits = omega (arith, c .before .before .before .before .before .before .before .before .loop-test .taken) }
+
+loop-less : tie.Need-loop-less Inv-loop μ-loop
+loop-less c = omega (arith, c .before .before .before .before .before .before .before .before .loop-test .taken)
+
+loop-again : tie.Need-loop-again Inv-loop μ-loop
+loop-again c =
+    let t = c .before .before .before .before in
+    let l = t .before .before .before .before .before .loop in
+    let k = t .turn .kept .1 in
+    (k .0 ∙ l .inv .0, k .1 .0 ∙ l .inv .1, subst (λ (m : ℕ). Good m (t .turn .result)) (sym (k .0)) (t .turn .ensures))
+
+same-length-2 : tie.Need-same-length-2 Inv-loop μ-loop
+same-length-2 c = search needs
+
+same-length-3 : tie.Need-same-length-3 Inv-loop μ-loop
+same-length-3 c = search needs
+
+returns-2 : tie.Need-returns-2 Inv-loop μ-loop
+returns-2 c = search needs
+
+same-length-4 : tie.Need-same-length-4 Inv-loop μ-loop
+same-length-4 c = search needs
+
+same-length-5 : tie.Need-same-length-5 Inv-loop μ-loop
+same-length-5 c = search needs
+
+returns-3 : tie.Need-returns-3 Inv-loop μ-loop
+returns-3 c = search needs
+
+pub list-spec : {M : Type 1} → statement M
+list-spec =
+    tie.close
+    (tie.spec
+    Inv-loop
+    μ-loop
+    heading-requires
+    slice-aggregate-fail
+    fail-requires
+    same-length
+    returns
+    begin-requires
+    loop-holds
+    turn-requires
+    add-n
+    loop-less
+    loop-again
+    same-length-2
+    same-length-3
+    returns-2
+    same-length-4
+    same-length-5
+    returns-3)

@@ -1,0 +1,132 @@
+use borrow.Author.Needs.{needs}
+use mathlib.Core.Bool.{Bool, true}
+use mathlib.Core.List.{List}
+use Prim.Native.Nat.{ℕ, _+_, _-_, _≤_}
+use native.Mathlib.Nat.{min-le-left, le-trans}
+use native.Mathlib.Omega.{arith}
+use lib.ListN.{length, take, length-take}
+use Rattle.bollardine.specs.declared.Shell.{Shell}
+use Rattle.bollardine.specs.Shell.{Good, good-stopped, good-after}
+use Rattle.bollardine.proofs.turn.Statement.{statement}
+use Rattle.bollardine.proofs.turn.Tie as tie
+
+fill-requires : tie.Need-fill-requires
+fill-requires c κs = search needs
+
+same-length : tie.Need-same-length
+same-length c = search needs
+
+returns : tie.Need-returns
+returns c = search needs
+
+sub-advance : tie.Need-sub-advance
+sub-advance c = search needs
+
+part-advance-start : tie.Need-part-advance-start
+part-advance-start c = search needs
+
+part-advance-end : tie.Need-part-advance-end
+part-advance-end c = search needs
+
+advance-requires : tie.Need-advance-requires
+advance-requires c κs = search needs
+
+add-next : tie.Need-add-next
+add-next c = search needs
+
+sub-write-all : tie.Need-sub-write-all
+sub-write-all c = search needs
+
+part-write-all-start : tie.Need-part-write-all-start
+part-write-all-start c = search needs
+
+part-write-all-end : tie.Need-part-write-all-end
+part-write-all-end c = search needs
+
+write-all-requires : tie.Need-write-all-requires
+write-all-requires c κs = search needs
+
+slice-aggregate-fail : tie.Need-slice-aggregate-fail
+slice-aggregate-fail c = search needs
+
+fail-requires : tie.Need-fail-requires
+fail-requires c κs = search needs
+
+ended-requires : tie.Need-ended-requires
+ended-requires c κs = search needs
+
+take-most : (n : ℕ) (l : List ℕ) → length (take n l) ≤ n
+take-most n l = rw (length-take n l) (min-le-left n (length l))
+
+-- the call takes no more than the window has
+after : (c : tie.After-advance) (hungry going : Bool) → Good (length (c .before .before .before .before .before .before .before .before .before .before .before .before .before .args .buf .now)) (record { progress = c .advance .result .progress; start = c .before .before .before .before .before .before .before .before .before .fill .result .start + c .advance .result .taken; end = c .before .before .before .before .before .before .before .before .before .fill .result .end; last = c .before .before .before .before .before .before .before .before .before .fill .result .last; hungry = hungry; going = going })
+after c hungry going =
+    good-after (c .before .before .before .before .before .before .before .before .before .fill .ensures) (c .advance .result) _ _ _ (c .advance .ensures .0) (le-trans (c .advance .ensures .1 .1 .0) (take-most _ _)) hungry going
+
+same-length-2 : tie.Need-same-length-2
+same-length-2 c = c .before .before .before .before .before .before .before .before .before .before .before .before .before .before .before .before .before .before .before .before .fill .kept .1 .0
+
+same-length-3 : tie.Need-same-length-3
+same-length-3 c = search needs
+
+returns-2 : tie.Need-returns-2
+returns-2 c = good-stopped (after (c .before .before .before .before .before .before .before .before .before .before .before) _ true) (c .ended .ensures)
+
+slice-aggregate-write-all : tie.Need-slice-aggregate-write-all
+slice-aggregate-write-all c = search needs
+
+write-all-requires-2 : tie.Need-write-all-requires-2
+write-all-requires-2 c κs = search needs
+
+ended-requires-2 : tie.Need-ended-requires-2
+ended-requires-2 c κs = search needs
+
+same-length-4 : tie.Need-same-length-4
+same-length-4 c = c .before .before .before .before .before .before .before .before .before .before .before .before .before .before .before .before .before .before .before .before .before .before .before .fill .kept .1 .0
+
+same-length-5 : tie.Need-same-length-5
+same-length-5 c = search needs
+
+returns-3 : tie.Need-returns-3
+returns-3 c = good-stopped (after (c .before .before .before .before .before .before .before .before .before .before .before .before .before .before) _ true) (c .ended2 .ensures)
+
+same-length-6 : tie.Need-same-length-6
+same-length-6 c = search needs
+
+same-length-7 : tie.Need-same-length-7
+same-length-7 c = search needs
+
+returns-4 : tie.Need-returns-4
+returns-4 c = after (c .before .before .before .before .before .before .before .before .before) _ _
+
+pub turn-spec : {M : Type 1} → statement M
+turn-spec =
+    tie.close
+    (tie.spec
+    fill-requires
+    same-length
+    returns
+    sub-advance
+    part-advance-start
+    part-advance-end
+    advance-requires
+    add-next
+    sub-write-all
+    part-write-all-start
+    part-write-all-end
+    write-all-requires
+    slice-aggregate-fail
+    fail-requires
+    ended-requires
+    same-length-2
+    same-length-3
+    returns-2
+    slice-aggregate-write-all
+    write-all-requires-2
+    ended-requires-2
+    same-length-4
+    same-length-5
+    returns-3
+    same-length-6
+    same-length-7
+    returns-4)
