@@ -1,0 +1,12 @@
+-- The same of the listing: any two answers, and any two contents of the lent output, are one.
+use mathlib.Core.Path.{_≡_}
+use Rattle.settled.specs.One.{one}
+use Rattle.listing.proofs.begin.Reads as begin
+use Rattle.listing.proofs.advance.Reads as advance
+
+pub begin-one : (κs : _) (a : _) (r r' : _) (s s' : _) → begin.Learnt κs a r s → begin.Learnt κs a r' s' → r ≡ r'
+begin-one κs a r r' s s' p q = one p q
+
+-- the answer and the lent output
+pub advance-one : (κs : _) (a : _) (r r' : _) (s s' : _) → advance.Learnt κs a r s → advance.Learnt κs a r' s' → (r ≡ r') × (s .1 .1 .1 .0 .now ≡ s' .1 .1 .1 .0 .now)
+advance-one κs a r r' s s' p q = (one (p .0) (q .0), one (p .1 .0) (q .1 .0))

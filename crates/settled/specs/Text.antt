@@ -1,0 +1,23 @@
+-- The same of the lines of the listing: any two answers, and any two contents of the lent slice, are one.
+use mathlib.Core.Path.{_≡_}
+use Rattle.settled.specs.One.{one}
+use Rattle.text.proofs.heading.Reads as heading
+use Rattle.text.proofs.granted.Reads as granted
+use Rattle.text.proofs.idle.Reads as idle
+use Rattle.text.proofs.refusal.Reads as refusal
+use Rattle.text.proofs.end.Reads as end
+
+pub heading-one : (κs : _) (a : _) (r r' : _) (s s' : _) → heading.Learnt κs a r s → heading.Learnt κs a r' s' → (r ≡ r') × (s .0 .now ≡ s' .0 .now)
+heading-one κs a r r' s s' p q = (one (p .0) (q .0), one (p .1) (q .1))
+
+pub granted-one : (κs : _) (a : _) (r r' : _) (s s' : _) → granted.Learnt κs a r s → granted.Learnt κs a r' s' → (r ≡ r') × (s .0 .now ≡ s' .0 .now)
+granted-one κs a r r' s s' p q = (one (p .0) (q .0), one (p .1) (q .1))
+
+pub idle-one : (κs : _) (a : _) (r r' : _) (s s' : _) → idle.Learnt κs a r s → idle.Learnt κs a r' s' → (r ≡ r') × (s .0 .now ≡ s' .0 .now)
+idle-one κs a r r' s s' p q = (one (p .0) (q .0), one (p .1) (q .1))
+
+pub refusal-one : (κs : _) (a : _) (r r' : _) (s s' : _) → refusal.Learnt κs a r s → refusal.Learnt κs a r' s' → (r ≡ r') × (s .0 .now ≡ s' .0 .now)
+refusal-one κs a r r' s s' p q = (one (p .0) (q .0), one (p .1) (q .1))
+
+pub end-one : (κs : _) (a : _) (r r' : _) (s s' : _) → end.Learnt κs a r s → end.Learnt κs a r' s' → (r ≡ r') × (s .0 .now ≡ s' .0 .now)
+end-one κs a r r' s s' p q = (one (p .0) (q .0), one (p .1) (q .1))
