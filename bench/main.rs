@@ -3,6 +3,7 @@
 // turns, by processor time, and must agree on every entry.
 #[path = "../bindings/bollardine.rs"]
 mod bollardine;
+#[allow(dead_code)]
 mod plain;
 
 use bollardine::{Answered, Row, Table};

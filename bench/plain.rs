@@ -1,4 +1,4 @@
-// The tick of document 01 in plain Rust, written for comparison of speed alone.
+// The schedule of document 01 in plain Rust, written for comparison of speed alone.
 #[derive(Clone, Copy, PartialEq)]
 enum Phase {
     Inactive,
@@ -24,10 +24,12 @@ pub struct State {
     had: usize,
     q: u32,
     clock: u32,
+    completed: bool,
     closed: bool,
 }
 
 const NOBODY: usize = 64;
+const MAX_JOBS: u32 = 65_535;
 const BLANK: Thread = Thread { app: 0, phase: Phase::Inactive, share: 0, period: 0, jobs: 0, w: 0, e: 0 };
 
 impl State {
@@ -36,34 +38,115 @@ impl State {
         for (t, r) in threads.iter_mut().zip(rows) {
             *t = Thread { app: r.0 as u8, share: r.1 as u32, period: r.2, ..BLANK };
         }
-        State { threads, count: rows.len(), had: NOBODY, q: q as u32, clock: 0, closed: false }
+        State { threads, count: rows.len(), had: NOBODY, q: q as u32, clock: 0, completed: false, closed: false }
     }
 
-    pub fn arrive(&mut self, i: usize) {
+    pub fn clock(&self) -> u32 {
+        self.clock
+    }
+
+    pub fn count(&self) -> usize {
+        self.count
+    }
+
+    // Jobs of a thread, neither completed nor dropped.
+    pub fn jobs(&self, i: usize) -> u32 {
+        self.threads[i].jobs
+    }
+
+    // What a line shows of a thread: application, E and W.
+    pub fn shown(&self, i: usize) -> (u8, i64, i64) {
+        let t = &self.threads[i];
+        (t.app, t.e, t.w)
+    }
+
+    // The refusal of an arrival, or 0.
+    #[inline]
+    pub fn arrive(&mut self, i: usize) -> u8 {
+        if self.threads[i].jobs == MAX_JOBS {
+            return 11;
+        }
+        if !self.closed {
+            self.leave();
+            self.closed = true;
+        }
         let now = self.clock as i64;
         let t = &mut self.threads[i];
-        if t.phase == Phase::Inactive {
-            t.w = t.share as i64 * now;
+        if t.phase != Phase::Contending {
+            if t.phase == Phase::Inactive {
+                t.w = t.share as i64 * now;
+            }
             t.e = t.w + t.share as i64 * t.period as i64;
             t.phase = Phase::Contending;
         }
         t.jobs += 1;
-        self.closed = true;
+        0
+    }
+
+    // The refusal of a completion, or 0.
+    pub fn complete(&mut self, i: usize) -> u8 {
+        if self.closed {
+            return 10;
+        }
+        if self.had != i || self.completed {
+            return 9;
+        }
+        self.completed = true;
+        let now = self.clock as i64;
+        let t = &mut self.threads[i];
+        t.jobs -= 1;
+        if t.jobs > 0 {
+            t.e = t.e.max(t.w + t.share as i64 * t.period as i64);
+        } else if t.w > t.share as i64 * now {
+            t.phase = Phase::NonContending;
+        } else {
+            let from = *t;
+            *t = Thread { phase: Phase::Inactive, w: 0, e: 0, ..from };
+            self.hand_on(&from, from.share as i64 * now - from.w);
+        }
+        0
+    }
+
+    // Takes what a completion freed from the thread of its application that receives it, if there is one.
+    fn hand_on(&mut self, from: &Thread, amount: i64) {
+        let threads = &mut self.threads[..self.count];
+        let mut best = NOBODY;
+        for i in 0..threads.len() {
+            let t = &threads[i];
+            let takes = t.phase != Phase::Inactive && t.app == from.app && !earlier(t, from);
+            if takes && (best == NOBODY || earlier(t, &threads[best])) {
+                best = i;
+            }
+        }
+        if best != NOBODY {
+            threads[best].w -= amount;
+        }
+    }
+
+    // A drop, which is never refused.
+    pub fn drop_waiting(&mut self, i: usize) -> u8 {
+        let t = &mut self.threads[i];
+        t.jobs = t.jobs.min(1);
+        0
+    }
+
+    fn leave(&mut self) {
+        let now = self.clock as i64;
+        for t in self.threads[..self.count].iter_mut() {
+            if t.phase == Phase::NonContending && t.w <= t.share as i64 * now {
+                *t = Thread { phase: Phase::Inactive, w: 0, e: 0, ..*t };
+            }
+        }
     }
 
     // One tick in place; the entry of the row.
     pub fn step(&mut self) -> u16 {
-        let now = self.clock as i64;
         let q = self.q as i64;
         let n = self.count;
-        let threads = &mut self.threads[..n];
         if !self.closed {
-            for t in threads.iter_mut() {
-                if t.phase == Phase::NonContending && t.w <= t.share as i64 * now {
-                    *t = Thread { phase: Phase::Inactive, w: 0, e: 0, ..*t };
-                }
-            }
+            self.leave();
         }
+        let threads = &mut self.threads[..n];
         let mut free = [0i64; 16];
         for t in threads.iter() {
             if t.phase == Phase::Inactive {
@@ -82,6 +165,7 @@ impl State {
             }
         }
         self.clock += 1;
+        self.completed = false;
         self.closed = false;
         self.had = best;
         if best == NOBODY {

@@ -1,6 +1,7 @@
 //! Counts of how often each refusal and each branch of the steps was reached.
 
 use std::cell::RefCell;
+use std::ops::RangeInclusive;
 
 /// Declares the branches and their printed names side by side.
 macro_rules! branches {
@@ -103,6 +104,21 @@ impl Counts {
         let here = self.refusals.iter().chain(&self.branches);
         let there = other.refusals.iter().chain(&other.branches);
         here.zip(there).any(|(have, more)| *have < each && *more > 0)
+    }
+
+    /// How often a refusal was given.
+    pub fn refusal(&self, number: usize) -> u64 {
+        self.refusals[number]
+    }
+
+    /// The names of those refusals and of all branches that were not reached.
+    pub fn unreached(&self, numbers: RangeInclusive<usize>) -> Vec<String> {
+        let refusals = numbers.filter(|number| self.refusals[*number] == 0);
+        let branches = NAMES.iter().zip(&self.branches).filter(|(_, count)| **count == 0);
+        refusals
+            .map(|number| format!("refusal {}", number))
+            .chain(branches.map(|(name, _)| name.to_string()))
+            .collect()
     }
 
     /// The counts, one per line.

@@ -1,13 +1,17 @@
 //! A second implementation of document 01, written from its text alone, for comparison.
 
 mod calls;
+mod compare;
 mod cover;
 mod listing;
 mod random;
 mod schedule;
+mod stored;
 #[cfg(test)]
 mod tests;
 mod trace;
+mod wide;
+mod words;
 
 use random::Size;
 use std::io::{self, Read, Write};
@@ -19,6 +23,11 @@ second list                      the listing of the trace on standard input
 second make SEED [small]         a random trace
 second calls SEED                random direct calls with their answers and states
 second pick SEED COUNT EACH      seeds of small random traces that reach each refusal and branch EACH times
+second compare PROGRAM           compares the program's listings of the random traces of the gate with its own
+second compare PROGRAM SEED COUNT  the same for other random traces
+second stored FOLDER             writes the stored traces and their listings
+second show                      the trace on standard input in words
+second wide SEED INDEX           one of these random traces
 second cover SEED COUNT [small]  how often each refusal and branch is reached over COUNT random traces
 ";
 
@@ -29,6 +38,17 @@ fn main() {
         ["list"] => list(),
         ["make", seed] => number(seed).map_or_else(usage, |seed| make(seed, Size::Usual)),
         ["make", seed, "small"] => number(seed).map_or_else(usage, |seed| make(seed, Size::Small)),
+        ["compare", program] => compare::compare(program, None),
+        ["compare", program, seed, count] => match (number(seed), number(count)) {
+            (Some(seed), Some(count)) => compare::compare(program, Some((seed, count))),
+            _ => usage(),
+        },
+        ["stored", folder] => stored::write(folder),
+        ["show"] => show(),
+        ["wide", seed, index] => match (number(seed), number(index)) {
+            (Some(seed), Some(index)) => io::stdout().write_all(&wide::trace(seed, index)),
+            _ => usage(),
+        },
         ["cover", seed, count] => cover_both(seed, count, Size::Usual),
         ["cover", seed, count, "small"] => cover_both(seed, count, Size::Small),
         ["calls", seed] => number(seed).map_or_else(usage, |seed| {
@@ -65,6 +85,13 @@ fn list() -> io::Result<()> {
     let mut out = io::BufWriter::new(stdout.lock());
     listing::list(&input, &mut out)?;
     out.flush()
+}
+
+/// Shows the trace on standard input in words.
+fn show() -> io::Result<()> {
+    let mut input = Vec::new();
+    io::stdin().read_to_end(&mut input)?;
+    io::stdout().write_all(words::shown(&input).as_bytes())
 }
 
 /// Writes a random trace.

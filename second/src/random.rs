@@ -15,7 +15,7 @@ impl Dice {
     }
 
     /// The next 64 random bits.
-    fn bits(&mut self) -> u64 {
+    pub fn bits(&mut self) -> u64 {
         self.state = self.state.wrapping_add(0x9e37_79b9_7f4a_7c15);
         let mut z = self.state;
         z = (z ^ (z >> 30)).wrapping_mul(0xbf58_476d_1ce4_e5b9);
@@ -54,15 +54,11 @@ pub enum Size {
 }
 
 /// The greatest tick that a random trace runs to.
-const TICKS_MOST: u32 = 20_000;
+pub const TICKS_MOST: u32 = 20_000;
 
 /// The random trace of a seed.
 pub fn trace(seed: u64, size: Size) -> Vec<u8> {
-    let mut maker = Maker {
-        dice: Dice::new(seed),
-        size,
-        bytes: Vec::new(),
-    };
+    let mut maker = Maker::new(seed, size);
     let choice = maker.dice.below(1_000);
     if size == Size::Usual && choice < 4 {
         maker.flood();
@@ -88,7 +84,7 @@ pub fn table(dice: &mut Dice, threads_most: usize) -> (u16, Vec<Row>) {
 }
 
 /// A table of one application with many threads of long periods beside one thread with a short period.
-fn lopsided_table(dice: &mut Dice, threads_most: usize) -> (u16, Vec<Row>) {
+pub fn lopsided_table(dice: &mut Dice, threads_most: usize) -> (u16, Vec<Row>) {
     let count = dice.between(3, threads_most);
     let parts = dice.between(2 * count, 24);
     let busy = dice.below(count);
@@ -216,20 +212,29 @@ pub fn faulty_table(dice: &mut Dice, threads_most: usize) -> (u16, u16, Vec<Row>
 }
 
 /// A trace in the making.
-struct Maker {
-    dice: Dice,
+pub struct Maker {
+    pub dice: Dice,
+    pub bytes: Vec<u8>,
     size: Size,
-    bytes: Vec<u8>,
 }
 
 impl Maker {
+    /// A trace of a seed, still without a record.
+    pub fn new(seed: u64, size: Size) -> Maker {
+        Maker {
+            dice: Dice::new(seed),
+            bytes: Vec::new(),
+            size,
+        }
+    }
+
     /// Writes one record.
-    fn write(&mut self, item: Item) {
+    pub fn write(&mut self, item: Item) {
         encode(item, &mut self.bytes);
     }
 
     /// Writes a head and its rows.
-    fn write_table(&mut self, parts: u16, count: u16, rows: &[Row]) {
+    pub fn write_table(&mut self, parts: u16, count: u16, rows: &[Row]) {
         self.write(Item::Head { parts, count });
         for row in rows {
             self.write(Item::Row(*row));
@@ -248,13 +253,21 @@ impl Maker {
     fn good(&mut self) {
         let threads_most = self.threads_most();
         let (parts, rows) = table(&mut self.dice, threads_most);
-        self.write_table(parts, rows.len() as u16, &rows);
-        let mut schedule = Schedule::admit(parts, &rows).expect("a good table");
         let (ticks, bytes_most) = match self.size {
             Size::Small => (self.dice.between(3, 38), 150),
             Size::Usual if self.dice.percent(3) => (self.dice.between(1_000, 8_000), 200_000),
             Size::Usual => (self.dice.between(1, 90), 20_000),
         };
+        let mut schedule = self.play(parts, &rows, ticks, bytes_most);
+        if self.dice.percent(30) {
+            self.bad_ending(&mut schedule);
+        }
+    }
+
+    /// A good table and events that make sense, up to a tick or to a number of bytes.
+    pub fn play(&mut self, parts: u16, rows: &[Row], ticks: usize, bytes_most: usize) -> Schedule {
+        self.write_table(parts, rows.len() as u16, rows);
+        let mut schedule = Schedule::admit(parts, rows).expect("a good table");
         let habits = Habits::new(&mut self.dice);
         while (schedule.clock() as usize) < ticks && self.bytes.len() < bytes_most {
             self.moment(&mut schedule, &habits);
@@ -264,9 +277,7 @@ impl Maker {
             let to = schedule.clock();
             self.write(Item::RunTo { tick: to });
         }
-        if self.dice.percent(30) {
-            self.bad_ending(&mut schedule);
-        }
+        schedule
     }
 
     /// The events of one moment.
@@ -341,7 +352,7 @@ impl Maker {
     }
 
     /// One refused event at the end, and perhaps good ones after it.
-    fn bad_ending(&mut self, schedule: &mut Schedule) {
+    pub fn bad_ending(&mut self, schedule: &mut Schedule) {
         let now = schedule.clock();
         let soon = now + self.dice.below(3) as u32;
         let threads = schedule.threads().len() as u16;
@@ -434,7 +445,7 @@ impl Maker {
     }
 
     /// An event of any kind that bears a tick.
-    fn event(&mut self, tick: u32, thread: u16) -> Item {
+    pub fn event(&mut self, tick: u32, thread: u16) -> Item {
         match self.dice.below(4) {
             0 => Item::Arrival { tick, thread },
             1 => Item::Completion { tick, thread },
@@ -444,7 +455,7 @@ impl Maker {
     }
 
     /// Writes a record of any length and kind with a random body.
-    fn write_raw(&mut self, length: u16, kind: u16, body: usize) {
+    pub fn write_raw(&mut self, length: u16, kind: u16, body: usize) {
         self.bytes.extend_from_slice(&length.to_le_bytes());
         self.bytes.extend_from_slice(&kind.to_le_bytes());
         for _ in 0..body {
@@ -465,7 +476,7 @@ impl Maker {
     }
 
     /// Very many jobs of one thread, up to the limit or past it.
-    fn flood(&mut self) {
+    pub fn flood(&mut self) {
         let (parts, rows) = table(&mut self.dice, 3);
         self.write_table(parts, rows.len() as u16, &rows);
         let thread = self.dice.below(rows.len()) as u16;
@@ -613,7 +624,7 @@ impl Habits {
 }
 
 /// Where each record starts, as far as the lengths lead.
-fn starts(bytes: &[u8]) -> Vec<usize> {
+pub fn starts(bytes: &[u8]) -> Vec<usize> {
     let mut found = Vec::new();
     let mut at = 0;
     while at + 4 <= bytes.len() {
@@ -624,7 +635,7 @@ fn starts(bytes: &[u8]) -> Vec<usize> {
 }
 
 /// The furthest tick within the clock's range that the readable records name.
-fn furthest(bytes: &[u8]) -> u32 {
+pub fn furthest(bytes: &[u8]) -> u32 {
     let mut reader = Reader::new(bytes);
     let mut most = 0;
     while let Ok(Some(item)) = reader.read() {

@@ -1,10 +1,16 @@
 //! The document's listing, its marked examples M1 to M10, its limits, and random checks.
 
 use crate::calls::calls;
+use crate::cover;
 use crate::listing::listing;
 use crate::random::{self, Dice, Size};
 use crate::schedule::{Amounts, Phase, Refusal, Row, Schedule, Tick, CLOCK_END, IDLE_ENTRY, JOBS_MOST};
+use crate::stored::{self, STORED};
 use crate::trace::{encode, Item};
+use crate::wide;
+use crate::words;
+use std::collections::BTreeSet;
+use std::fs;
 
 /// A row from its three numbers.
 fn row(application: u16, share: u16, period: u32) -> Row {
@@ -400,6 +406,82 @@ fn idle_ticks_at_once_and_one_by_one() {
 fn random_calls_hold_the_invariants() {
     for seed in 0..1_000 {
         assert!(calls(seed).starts_with("table "));
+    }
+}
+
+/// The folder of the stored traces.
+const TRACES: &str = concat!(env!("CARGO_MANIFEST_DIR"), "/../traces");
+
+#[test]
+fn stored_traces_are_those_of_the_list() {
+    let mut names = BTreeSet::from([String::from("README.md")]);
+    for stored in STORED {
+        let trace = format!("{}.trace", stored.name);
+        let listing = format!("{}.listing", stored.name);
+        let kept = fs::read(format!("{}/{}", TRACES, trace)).expect("a stored trace");
+        assert!(kept == stored::trace(stored), "{}", trace);
+        let listed_then = fs::read(format!("{}/{}", TRACES, listing)).expect("a stored listing");
+        assert!(listed_then == crate::listing::listing(&kept), "{}", listing);
+        assert!(
+            names.insert(trace) && names.insert(listing),
+            "{} twice",
+            stored.name
+        );
+    }
+    let files = fs::read_dir(TRACES).expect("the folder of the stored traces");
+    let files: BTreeSet<String> = files
+        .map(|file| {
+            file.expect("a file")
+                .file_name()
+                .into_string()
+                .expect("a plain name")
+        })
+        .collect();
+    assert_eq!(files, names);
+    let page = fs::read_to_string(format!("{}/README.md", TRACES)).expect("the page");
+    assert_eq!(page, stored::page());
+}
+
+#[test]
+fn the_worked_trace_is_that_of_the_document() {
+    let worked = STORED
+        .iter()
+        .find(|stored| stored.name == stored::WORKED)
+        .expect("it is stored");
+    assert_eq!(stored::trace(worked), bytes(&example()));
+    assert_eq!(listed(&stored::trace(worked)), stored::WORKED_LISTING);
+}
+
+#[test]
+fn stored_traces_reach_every_refusal_and_branch() {
+    cover::take();
+    for stored in STORED {
+        listing(&stored::trace(stored));
+    }
+    let missed = cover::take().unreached(1..=16);
+    assert!(missed.is_empty(), "{:?}", missed);
+}
+
+#[test]
+fn traces_in_words_are_read_back() {
+    for seed in 0..300 {
+        let trace = random::trace(seed, Size::Small);
+        let shown = words::shown(&trace);
+        if trace.is_empty() {
+            continue;
+        }
+        assert_eq!(words::trace(&shown), Ok(trace), "{}", shown);
+    }
+    assert!(words::trace("arr 0").is_err());
+    assert!(words::trace("row 0 65536 1").is_err());
+}
+
+#[test]
+fn traces_of_the_comparison_hold_the_invariants() {
+    for index in 0..1_500 {
+        let out = listed(&wide::trace(3, index));
+        assert!(out.starts_with("tick thread app deadline virtual\n"));
+        assert!(out.ends_with('\n'));
     }
 }
 
