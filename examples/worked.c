@@ -1,5 +1,6 @@
 /* The worked example of document 01 by direct calls from C: a table, arrivals, runs into a lent row,
- * completions. It writes the number and the thread of each tick. */
+ * completions, a job that is dropped again, and a single step. It writes the number and the thread of
+ * each tick. */
 #include <stdio.h>
 #include <stdlib.h>
 
@@ -36,6 +37,11 @@ int main(void)
     struct bollardine_state s = accepted(bollardine_begin(table));
     s = accepted(bollardine_arrive(s, 0));
     s = accepted(bollardine_arrive(s, 2));
+    printf("free share of application 0: %u\n", bollardine_free_share(s, 0));
+    s = accepted(bollardine_arrive(s, 2));
+    printf("jobs of thread 2: %u", s.threads[2].jobs);
+    s = accepted(bollardine_drop(s, 2));
+    printf(", after a drop %u\n", s.threads[2].jobs);
     s = run(s, 2);
     s = accepted(bollardine_arrive(s, 1));
     s = run(s, 5);
@@ -44,7 +50,9 @@ int main(void)
     s = accepted(bollardine_complete(s, 1));
     s = run(s, 7);
     s = accepted(bollardine_complete(s, 2));
-    s = run(s, 8);
+    struct bollardine_stepped last = bollardine_step(s);
+    printf("7 %s, clock %u\n", last.refusal == 0 && last.thread == 65535 ? "-" : "?", last.state.clock);
+    s = last.state;
     printf("thread 1 a second time: refused %u\n", bollardine_complete(s, 1).refusal);
     return 0;
 }

@@ -1,5 +1,6 @@
 //! The worked example of document 01 by direct calls from Rust: a table, arrivals, single steps,
-//! completions. It writes the number and the thread of each tick.
+//! completions, a job that is dropped again, and a run into a lent row. It writes the number and the
+//! thread of each tick.
 #[path = "../bindings/bollardine.rs"]
 mod bollardine;
 
@@ -36,6 +37,11 @@ fn main() {
     let s = accepted(bollardine::begin(table));
     let s = accepted(bollardine::arrive(s, 0));
     let s = accepted(bollardine::arrive(s, 2));
+    println!("free share of application 0: {}", bollardine::free_share(s, 0));
+    let s = accepted(bollardine::arrive(s, 2));
+    print!("jobs of thread 2: {}", s.threads[2].jobs);
+    let s = accepted(bollardine::drop_waiting(s, 2));
+    println!(", after a drop {}", s.threads[2].jobs);
     let s = run(s, 2);
     let s = accepted(bollardine::arrive(s, 1));
     let s = run(s, 5);
@@ -44,6 +50,8 @@ fn main() {
     let s = accepted(bollardine::complete(s, 1));
     let s = run(s, 7);
     let s = accepted(bollardine::complete(s, 2));
-    let s = run(s, 8);
+    let mut row = [0];
+    let s = accepted(bollardine::run(s, 8, &mut row));
+    println!("7 {}, clock {}", if row == [65535] { "-" } else { "?" }, s.clock);
     println!("thread 1 a second time: refused {}", bollardine::complete(s, 1).refusal);
 }
