@@ -1,0 +1,179 @@
+"""Wrong rules of tools/wrong-rules, by name, each with the same wrong change of the code: file, old text, new text."""
+
+THREAD = "crates/schedule/src/thread.rt"
+EVENTS = "crates/schedule/src/events.rt"
+STEP = "crates/schedule/src/step.rt"
+PASSES = "crates/schedule/src/passes.rt"
+TABLES = "crates/tables/src/lib.rt"
+TRACE = "crates/trace/src/lib.rt"
+READER = "crates/reader/src/lib.rt"
+LISTING = "crates/listing/src/lib.rt"
+TEXT = "crates/text/src/lib.rt"
+
+CHOICE = "    if b == Table::NOBODY {\n        return idle_tick(z);\n    }\n    charge(z, b, free, best)\n"
+PERIOD = "scaled(t.share, Moment(t.period))"
+# a record that the listing sweeps changes the jobs of a thread and nothing else: with this no arrival is swept
+NO_SWEEP = (LISTING, "    t.jobs + 1\n", "    65536\n")
+
+ALIKE = {
+    # ---- step 1, completion
+    "completion-pulls-back": [(EVENTS, "    if less(t.e, e) {\n        u.e = e;\n    }\n", "    u.e = e;\n")],
+    "completion-keeps-deadline": [(EVENTS, "        u.e = e;\n", "        u.e = t.e;\n")],
+    "stays-at-equality": [(EVENTS, "if less(due, t.w) {", "if !less(t.w, due) {")],
+    "receiver-earlier-too": [(EVENTS, "    !earlier(y, x)\n", "    true\n")],
+    "receiver-only-earlier": [(EVENTS, "    !earlier(y, x)\n", "    earlier(y, x)\n")],
+    "receiver-strictly-later": [(EVENTS, "    !earlier(y, x)\n", "    earlier(x, y)\n")],
+    "receiver-contending": [
+        (EVENTS, "use crate::thread::earlier;", "use crate::thread::contends;\nuse crate::thread::earlier;"),
+        (EVENTS, "    if inactive(y) {", "    if !contends(y) {"),
+    ],
+    "receiver-in-any-application": [(EVENTS, "    if y.app != x.app {", "    if y.app != y.app {")],
+    "freed-amount-lost": [(EVENTS, "let b = find_receiver(z, t);", "let b = Table::NOBODY;")],
+    "completion-forgets-who-had": [(EVENTS, "    z.completed = true;\n", "    z.completed = true;\n    z.had = Table::NOBODY;\n")],
+    "completion-closes": [(EVENTS, "    z.completed = true;\n", "    z.completed = true;\n    z.closed = true;\n")],
+    "completion-not-remembered": [(EVENTS, "    z.completed = true;\n", "    z.completed = s.completed;\n")],
+    "second-completion": [(EVENTS, "    if s.completed {\n        return refused(9, s);\n    }\n", "")],
+    "nine-before-ten": [
+        (EVENTS, "    if s.closed {\n        return refused(10, s);\n    }\n    if k != s.had {\n        return refused(9, s);\n    }\n    if s.completed {\n        return refused(9, s);\n    }\n",
+         "    if k != s.had {\n        return refused(9, s);\n    }\n    if s.completed {\n        return refused(9, s);\n    }\n    if s.closed {\n        return refused(10, s);\n    }\n"),
+    ],
+    # ---- step 2, leaving
+    "leaving-strict": [(THREAD, "if less(scaled(t.share, now), t.w) {", "if !less(t.w, scaled(t.share, now)) {")],
+    "leaving-never": [(THREAD, "                at_rest(t)\n", "                t\n")],
+    "leaving-contending": [
+        (THREAD, "        Phase::Contending => t,\n",
+         "        Phase::Contending => { if less(scaled(t.share, now), t.w) { t } else { at_rest(t) } }\n"),
+    ],
+    "leaving-not-before-arrival": [(EVENTS, "let mut z = leaving(s);", "let mut z = s;")],
+    "leaving-not-at-tick": [(STEP, "left_unless(closed, x, now)", "left_unless(true, x, now)")],
+    # ---- step 3, arrivals
+    "arrival-resets-w": [
+        (EVENTS, f"Phase::NonContending => contending(t, jobs, w, add(w, {PERIOD})),",
+         f"Phase::NonContending => contending(t, jobs, scaled(t.share, now), add(scaled(t.share, now), {PERIOD})),"),
+    ],
+    "arrival-keeps-deadline": [
+        (EVENTS, f"Phase::NonContending => contending(t, jobs, w, add(w, {PERIOD})),", "Phase::NonContending => contending(t, jobs, w, e),"),
+    ],
+    "arrival-sets-deadline": [
+        (EVENTS, "Phase::Contending => contending(t, jobs, w, e),", f"Phase::Contending => contending(t, jobs, w, add(w, {PERIOD})),"),
+        NO_SWEEP,
+    ],
+    "arrival-from-zero": [(EVENTS, "let v = scaled(t.share, now);", "let v = scaled(t.share, Moment(0));")],
+    "arrival-open": [(EVENTS, "    z.closed = true;\n", "    z.closed = s.closed;\n"), NO_SWEEP],
+    "arrival-one-job-too-few": [(EVENTS, "if t.jobs >= Table::MAX_JOBS {", "if t.jobs + 1 >= Table::MAX_JOBS {"), NO_SWEEP],
+    "arrival-refused-leaves": [(EVENTS, "return refused(11, s);", "return refused(11, leaving(s));")],
+    "arrival-refused-closes": [
+        (EVENTS, "        return refused(11, s);\n", "        let mut y = s;\n        y.closed = true;\n        return refused(11, y);\n"),
+    ],
+    "arrival-refused": [(EVENTS, "    let mut z = leaving(s);\n", "    if t.jobs < Table::MAX_JOBS {\n        return refused(8, s);\n    }\n    let mut z = leaving(s);\n"), NO_SWEEP],
+    # ---- step 4, fitting
+    "fitting-after-passing": [(THREAD, "if less(sub(e, w), amount_of(room)) {", "if less(e, w) {")],
+    "fitting-after-reaching": [(THREAD, "if less(sub(e, w), amount_of(room)) {", "if !less(w, e) {")],
+    "fitting-at-equality": [(THREAD, "if less(sub(e, w), amount_of(room)) {", "if !less(amount_of(room), sub(e, w)) {")],
+    "fitting-left-out": [(STEP, "let t = fit_one(x, room);", "let t = x;")],
+    "fitting-repeated": [
+        (THREAD, f"            u.e = add(e, {PERIOD});\n",
+         f"            u.e = add(e, {PERIOD});\n            if less(sub(u.e, w), amount_of(room)) {{\n                u.e = add(u.e, {PERIOD});\n            }}\n"),
+    ],
+    "fitting-whole-tick": [(STEP, "let room = q - free[a];", "let room = q;")],
+    "fitting-from-w": [(THREAD, f"u.e = add(e, {PERIOD});", f"u.e = add(w, {PERIOD});")],
+    "fitting-non-contending": [(THREAD, "    if contends(t) {\n        let e", "    if is_active(t) {\n        let e")],
+    # ---- step 5, choice
+    "tie-to-highest": [
+        (THREAD, "        if earlier(t, o) {", "        if !earlier(o, t) {"),
+        (EVENTS, "                if earlier(t, o) {", "                if !earlier(o, t) {"),
+    ],
+    "deadlines-rounded-down": [
+        (THREAD, "let p = times(t.e, o.share);", "let p = Amount(t.e.0 / (t.share as i64));"),
+        (THREAD, "let q = times(o.e, t.share);", "let q = Amount(o.e.0 / (o.share as i64));"),
+    ],
+    "deadlines-rounded-up": [
+        (THREAD, "let p = times(t.e, o.share);", "let p = Amount((t.e.0 + (t.share as i64) - 1) / (t.share as i64));"),
+        (THREAD, "let q = times(o.e, t.share);", "let q = Amount((o.e.0 + (o.share as i64) - 1) / (o.share as i64));"),
+    ],
+    "deadlines-not-scaled": [
+        (THREAD, "let p = times(t.e, o.share);", "let p = t.e;"), (THREAD, "let q = times(o.e, t.share);", "let q = o.e;"),
+    ],
+    "choice-of-active": [(STEP, "b = first(contends(t), t, o, b, j);", "b = first(is_active(t), t, o, b, j);")],
+    "choice-always-first": [(STEP, CHOICE, "    charge(z, 0, free, best)\n")],
+    "choice-always-idle": [(STEP, CHOICE, "    idle_tick(z)\n")],
+    "idle-leaves-threads": [(PASSES, "z.threads[i] = at_rest(t);", "z.threads[i] = t;")],
+    # ---- step 6, charge
+    "charge-whole": [(PASSES, "let room = z.q - free[own];", "let room = z.q;")],
+    "charge-share": [(PASSES, "let room = z.q - free[own];", "let room = t.share;")],
+    "own-application-benefits": [(PASSES, "if a != own {", "if a != Table::APPS {")],
+    "nobody-benefits": [(PASSES, "if a != own {", "if a == Table::APPS {")],
+    "beneficiary-contending": [(STEP, "best[a] = first(is_active(t), t, p, f, j);", "best[a] = first(contends(t), t, p, f, j);")],
+    "free-share-of-all": [
+        (STEP, "        let a = t.app as usize;\n        let r = free[a];\n        free[a] = r + spare(t);\n",
+         "        let mut a: usize = 0;\n        while a < Table::APPS {\n            let r = free[a];\n            free[a] = r + spare(t);\n            a += 1;\n        }\n"),
+    ],
+    "non-contending-is-free": [(THREAD, "    if inactive(t) {\n        return t.share;", "    if !contends(t) {\n        return t.share;")],
+    "completed-stays": [
+        (PASSES, "    z.had = c;\n    z.completed = false;\n", "    z.had = c;\n"),
+        (PASSES, "    z.had = Table::NOBODY;\n    z.completed = false;\n", "    z.had = Table::NOBODY;\n"),
+    ],
+    "closed-stays": [
+        (PASSES, "    z.had = c;\n    z.completed = false;\n    z.closed = false;\n", "    z.had = c;\n    z.completed = false;\n"),
+        (PASSES, "    z.had = Table::NOBODY;\n    z.completed = false;\n    z.closed = false;\n", "    z.had = Table::NOBODY;\n    z.completed = false;\n"),
+    ],
+    "clock-only": [
+        (PASSES, "if a != own {", "if a == Table::APPS {"), (PASSES, "u.w = add(u.w, amount_of(room));", "u.w = add(u.w, amount_of(0));"),
+        (PASSES, "z.threads[i] = at_rest(t);", "z.threads[i] = t;"),
+    ],
+    # ---- drops
+    "drop-head": [
+        (EVENTS, "    if t.jobs > 1 {\n        u.jobs = 1;\n    }\n", "    u.jobs = 0;\n"),
+        (LISTING, "{ if t.jobs > 1 { 1 } else { t.jobs } }", "0,"),
+    ],
+    "drop-nothing": [
+        (EVENTS, "        u.jobs = 1;\n", "        u.jobs = t.jobs;\n"), (LISTING, "{ if t.jobs > 1 { 1 } else { t.jobs } }", "t.jobs,"),
+    ],
+    "drop-one": [
+        (EVENTS, "        u.jobs = 1;\n", "        u.jobs = t.jobs - 1;\n"),
+        (LISTING, "{ if t.jobs > 1 { 1 } else { t.jobs } }", "{ if t.jobs > 1 { t.jobs - 1 } else { t.jobs } }"),
+    ],
+    "drop-brings-leaving": [
+        (EVENTS, "    let mut z = s;\n    z.threads[k] = u;\n    Answered {", "    let mut y = s;\n    y.threads[k] = u;\n    let z = leaving(y);\n    Answered {"),
+        (LISTING, "{ if t.jobs > 1 { 1 } else { t.jobs } }", "65536,"),
+    ],
+    # ---- runs and tables
+    "seventeen-before-thirteen": [
+        (STEP, "    if to.0 > end.0 {\n        return Answered {\n            answer: Answer::Refused(13), // whatever the row\n            state: s,\n        };\n    }\n    let n = (to.0 - s.clock.0) as usize;\n    if row.len() < n {\n        return Answered {\n            answer: Answer::Refused(17),\n            state: s,\n        };\n    }\n",
+         "    let n = (to.0 - s.clock.0) as usize;\n    if row.len() < n {\n        return Answered {\n            answer: Answer::Refused(17),\n            state: s,\n        };\n    }\n    if to.0 > end.0 {\n        return Answered {\n            answer: Answer::Refused(13),\n            state: s,\n        };\n    }\n"),
+    ],
+    "idle-entry": [(STEP, "        return Table::IDLE;", "        return 64;")],
+    "two-before-one": [
+        (TABLES, "    if q == 0 {\n        return Answer::Refused(1);\n    }\n    if q > Table::MAX_Q {\n        return Answer::Refused(1);\n    }\n    if threads == 0 {\n        return Answer::Refused(2);\n    }\n    if threads as usize > Table::MAX_THREADS {\n        return Answer::Refused(2);\n    }\n",
+         "    if threads == 0 {\n        return Answer::Refused(2);\n    }\n    if threads as usize > Table::MAX_THREADS {\n        return Answer::Refused(2);\n    }\n    if q == 0 {\n        return Answer::Refused(1);\n    }\n    if q > Table::MAX_Q {\n        return Answer::Refused(1);\n    }\n"),
+    ],
+    "seven-before-six": [
+        (TABLES, "    if (x.share as u64) * (period as u64) < q as u64 {\n        return Answer::Refused(6);\n    }\n    if (before as u64) + (x.share as u64) > q as u64 {\n        return Answer::Refused(7);\n    }\n",
+         "    if (before as u64) + (x.share as u64) > q as u64 {\n        return Answer::Refused(7);\n    }\n    if (x.share as u64) * (period as u64) < q as u64 {\n        return Answer::Refused(6);\n    }\n"),
+    ],
+    "period-0-as-written": [(TABLES, "        return Table::USUAL_PERIOD;", "        return 0;")],
+    "row-not-counted": [(TABLES, "if (before as u64) + (x.share as u64) > q as u64 {", "if (before as u64) > q as u64 {")],
+    "six-at-equality": [(TABLES, "if (x.share as u64) * (period as u64) < q as u64 {", "if (x.share as u64) * (period as u64) <= q as u64 {")],
+    # ---- traces and the listing
+    "big-endian": [(TRACE, "(low + 256 * high) as u16", "(256 * low + high) as u16")],
+    "length-below-two": [(TRACE, "    if n < 2 {\n        return Frame::Cut;\n    }\n", "")],
+    "eight-before-thirteen": [
+        (READER, "        Record::Arrival(m, i) => thread_answer(now, count, m, i),\n",
+         "        Record::Arrival(m, i) => { if (i as usize) < count { moment_answer(now, m) } else { Answer::Refused(8) } }\n"),
+    ],
+    "head-anywhere": [(READER, "    if old.threads != 0 {\n        return refused(16, r);\n    }\n", "")],
+    "rows-may-miss": [(LISTING, "    if !at_events(p.reading.table.threads, p.reading.rows) {\n        return stop(out, at, used, p, 14);\n    }\n", "")],
+    "deadline-before-fitting": [
+        (LISTING, "        z = next(z);\n", "        let y = z;\n        z = next(z);\n"),
+        (LISTING, "            used = text::granted(out, used, tick, b as u16, t.app, t.e, t.w);", "            let x = y.threads[b];\n            used = text::granted(out, used, tick, b as u16, t.app, x.e, t.w);"),
+    ],
+    "virtual-before-charge": [
+        (LISTING, "        z = next(z);\n", "        let y = z;\n        z = next(z);\n"),
+        (LISTING, "            used = text::granted(out, used, tick, b as u16, t.app, t.e, t.w);", "            let x = y.threads[b];\n            used = text::granted(out, used, tick, b as u16, t.app, t.e, x.w);"),
+    ],
+    "refused-at-the-end": [
+        (LISTING, "    if let Answer::Refused(m) = a {\n        return stop(out, at, used, p, m);\n    }\n    let next", "    if let Answer::Refused(m) = a {\n        return stop(out, at, used, reached(r, place + n as u64), m);\n    }\n    let next"),
+        (LISTING, "        Decoded::Refused(m) => stop(out, at, used, p, m),", "        Decoded::Refused(m) => stop(out, at, used, reached(p.reading, p.place + n as u64), m),"),
+    ],
+    "no-sign": [(TEXT, "        let k = put_byte(out, at, b'-');\n        return put_decimal(out, k, n);", "        return put_decimal(out, at, n);")],
+}

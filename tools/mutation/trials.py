@@ -1,0 +1,157 @@
+"""Copies of the repository in which a change is proved, or built with no proof and tested."""
+import os
+import pathlib
+import platform
+import re
+import shutil
+import subprocess
+
+# the seed and the number of the random traces
+RANDOM = ("7", "600")
+# a crate that holds no function is judged by the crate that holds its constants to the rules
+JUDGE = {"quantities": "promises"}
+
+
+def run(words, folder, seconds=None, **more):
+    """The exit status, None where the time was not enough, and what was said."""
+    try:
+        done = subprocess.run(words, cwd=folder, stdin=subprocess.DEVNULL, stdout=subprocess.PIPE, stderr=subprocess.STDOUT, timeout=seconds, **more)
+    except subprocess.TimeoutExpired:
+        return None, ""
+    return done.returncode, done.stdout.decode(errors="replace")
+
+
+def keep_what_is_linked(kit, kept):
+    """The toolchain once more, as links, with a linker that keeps a copy of what it links.
+
+    rt try compiles with no proof, at -O0, at -O3 and with checks, runs each and gives none of them away.
+    """
+    home = pathlib.Path(os.environ.get("RATTLE_HOME") or pathlib.Path(shutil.which("rt")).resolve().parent.parent)
+    machine = pathlib.Path("on") / platform.machine()
+    tools = machine / "toolchain"
+    for folder, without in ((".", "on"), (machine, "toolchain"), (tools, "bin"), (tools / "bin", "ld.lld")):
+        (kit / folder).mkdir(parents=True, exist_ok=True)
+        for path in (home / folder).iterdir():
+            if path.name != without:
+                (kit / folder / path.name).symlink_to(path)
+    linker = kit / tools / "bin/ld.lld"
+    linker.write_text(f"""#!/bin/sh
+"{home / tools / 'bin/ld.lld'}" "$@" || exit $?
+while [ "$1" != -o ]; do shift; done
+cp "$2" "{kept}/$(ls "{kept}" | wc -l)"
+""")
+    linker.chmod(0o755)
+
+
+class Place:
+    """One copy to prove in, with what was proved so far, and one to build in with no proof."""
+
+    def __init__(self, root, folder):
+        self.root = root
+        self.folder = folder
+        self.proved = folder / "proved"
+        shutil.copytree(root, self.proved, ignore=shutil.ignore_patterns(".git", "mutate", "second"))
+        self.plain = folder / "plain"
+        shutil.copytree(root / "crates", self.plain / "crates")
+        shutil.copy(root / "crates.txt", self.plain)
+        # nothing is compared while a program is built
+        for name in ("bollardine/stdin", "bollardine/stdout", "limits/stdout"):
+            (self.plain / "crates" / name).unlink()
+        # rt try begins on an interpreter, which is slow and gives up at such a call
+        self.edit("crates/limits/src/main.rt", "fn main() {\n", "fn main() {\n    os::arg_count();\n")
+        self.edit("crates.txt", " io libc\n", " io os libc\n")
+        self.kept = folder / "kept"
+        self.kit = folder / "kit"
+        keep_what_is_linked(self.kit, self.kept)
+
+    def edit(self, file, old, new):
+        """Edits a file of the copy to build in, in which the old text stands once."""
+        text = (self.plain / file).read_text()
+        if text.count(old) != 1:
+            raise ValueError(f"{file} has not once {old!r}")
+        (self.plain / file).write_text(text.replace(old, new))
+
+    def put(self, texts):
+        """Puts the texts, by file, into both copies and gives back those that stood there."""
+        before = {file: (self.plain / file).read_text() for file in texts}
+        for folder in (self.proved, self.plain):
+            for file, text in texts.items():
+                (folder / file).write_text(text)
+        return before
+
+    def built(self, program):
+        """The program as it is compiled at -O3 with no proof, or None, and what was said."""
+        shutil.rmtree(self.kept, ignore_errors=True)
+        self.kept.mkdir()
+        _, said = run(["rt", "try", program], self.plain, 60, env=dict(os.environ, RATTLE_HOME=str(self.kit)))
+        second = self.kept / "1"
+        return (shutil.copy(second, self.folder / program) if second.exists() else None), said
+
+    # ---- the prover
+
+    def prover(self, crate):
+        """Whether the prover refuses, None where the change is no program, and what is said of it."""
+        asked = JUDGE.get(crate, crate)
+        status, said = run(["rt", "dev", asked], self.proved)
+        if status == 1:
+            return (None, "") if ": error[" in said else (True, unproved(said))
+        status, said = run(["rt", "check", asked], self.proved)
+        if status == 1:
+            return True, "in the full check, " + unproved(said)
+        return False, "ACCEPTED" if status == 0 else f"NOT TOLD: rt ends with {status}"
+
+    # ---- the tests
+
+    def tests(self):
+        """What the tests say of the program: None where there is none."""
+        program, said = self.built("bollardine")
+        if program is None and "error[" in said:
+            return None
+        if program is None:
+            return {"stored": "does not end", "random": "", "limits": ""}
+        return {"stored": self.stored(program), "random": self.random(program), "limits": self.limits()}
+
+    def limits(self):
+        """The first line of the program limits that differs from what document 01 says."""
+        program, _ = self.built("limits")
+        status, said = run([program], self.folder, 60) if program else (None, "")
+        if status is None:
+            return "does not end"
+        right = (self.root / "crates/limits/stdout").read_text().splitlines()
+        for line, there in zip(right, said.splitlines() + [""]):
+            if line != there:
+                return line
+        return ""
+
+    def stored(self, program):
+        """How many stored listings differ, and the first of them."""
+        wrong, late = [], 0
+        for trace in sorted((self.root / "traces").glob("*.trace")):
+            try:
+                with open(trace, "rb") as given:
+                    written = subprocess.run([program], stdin=given, stdout=subprocess.PIPE, stderr=subprocess.DEVNULL, timeout=5).stdout
+            except subprocess.TimeoutExpired:
+                written, late = None, late + 1
+            if written != trace.with_suffix(".listing").read_bytes():
+                wrong.append(trace.stem)
+            if late == 3:
+                break
+        return f"{len(wrong)}: {wrong[0]}" if wrong else ""
+
+    def random(self, program):
+        """Which random trace is the first whose listing differs from that of the second program."""
+        second = self.root / "target/second/release/second"
+        status, said = run([second, "compare", program, *RANDOM], self.folder, 300)
+        if status == 0:
+            return ""
+        found = re.search(r"index (\d+)", said)
+        return f"trace {found.group(1)}" if found else "does not end"
+
+
+def unproved(said):
+    """The function, and the first fact of it that is not proved."""
+    found = re.search(r"proofs/([\w/]+)/\w+\.antt:\d+:\d+: error: `([^`]+)`", said)
+    if found:
+        return f"{found.group(1)}: {found.group(2)}"
+    found = re.search(r"^(?:fn|rt:) (\S+): not proved", said, re.M)
+    return found.group(1) if found else "refused"
