@@ -20,7 +20,8 @@ use Rattle.promises.specs.Good.{share, deficit, Fine, Rows, Good}
 use Rattle.promises.specs.Tick.{late-claims}
 
 -- ---- what is not refused
-peel : (b : Bool) (k : ℕ) (a : Answer) → cond b (Refused k) a ≡ Done → (b ≡ false) × (a ≡ Done)
+-- one test passed
+pub peel : (b : Bool) (k : ℕ) (a : Answer) → cond b (Refused k) a ≡ Done → (b ≡ false) × (a ≡ Done)
 peel true k a e = let z : _≡_ {A = ℕ} 0 1 = cc in absurd (omega arith)
 peel false k a e = (refl, e)
 
@@ -58,6 +59,7 @@ row-admitted usual q before x e =
 
 pub record Headed (q n : ℕ) : Type 0 where
   pub q-max : q ≤ maxQ
+  pub some : n ≡ 0 → ⊥
   pub few : n ≤ maxThreads
 
 pub head-admitted : (q n : ℕ) → headAnswer q n ≡ Done → Headed q n
@@ -67,7 +69,7 @@ head-admitted q n e =
     let p1' = peel (ltb maxQ q) 1 _ (p1 .1) in
     let p2 = peel (eqb n 0) 2 _ (p1' .1) in
     let p2' = peel (ltb maxThreads n) 2 Done (p2 .1) in
-    record { q-max = ltb-false maxQ q (p1' .0); few = ltb-false maxThreads n (p2' .0) }
+    record { q-max = ltb-false maxQ q (p1' .0); some = eqb-false n 0 (p2 .0); few = ltb-false maxThreads n (p2' .0) }
 
 module _ (usual q : ℕ) (rows : List Row) where
   -- each of the first n rows is admitted

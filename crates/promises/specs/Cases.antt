@@ -26,3 +26,7 @@ neqb→ne m n f e = T-not (eqb m n) f (subst (λ (z : ℕ). T (eqb m z)) e (eqb-
 pub both : (a b : Bool) → T (a && b) → T a × T b
 both true b t = (tt, t)
 both false b t = absurd t
+
+pub and-false : (b : Bool) → (b && false) ≡ false
+and-false true = refl
+and-false false = refl

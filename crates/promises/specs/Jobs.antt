@@ -13,16 +13,18 @@ use lib.ListN.{length, take, length-append, length-take}
 use Rattle.integers.specs.Parts.{up, dn, _≼_, _≺_, add-parts, sub-parts, ltZ-true}
 use Rattle.lists.specs.All as all
 use Rattle.lists.specs.All.{All, more, all-append}
-use Rattle.rules.specs.Threads.{Thread, Phase, Inactive, Contending, NonContending, with, withJobs, isContending, isNon, contends, idle, loses}
+use Rattle.rules.specs.Threads.{Thread, Phase, Inactive, Contending, NonContending, with, withJobs, isContending, contends, idle, loses}
 use Rattle.rules.specs.Completion.{goesOn, stays, ends}
 use Rattle.rules.specs.Leaving.{leave}
 use Rattle.rules.specs.Arrival.{arriveAs, arrive}
 use Rattle.rules.specs.Drop.{headOnly}
-use Rattle.rules.specs.Fitting.{postpone, fit}
+use Rattle.rules.specs.Fitting.{fit}
 use Rattle.rules.specs.Charge.{gains}
 use Rattle.rules.specs.History.{Job, Account, begins, figureOf, longer, completeHead, withWaiting}
 use Rattle.promises.specs.Cases.{by-test, true-T}
+use Rattle.promises.specs.Branches.{by-leaving, by-fitting}
 use Rattle.promises.specs.Demand3.{OnTime}
+use Rattle.promises.specs.Row.{apart}
 
 -- w is at most the figure of the job completed last, and there is one
 abbrev pub Within : ℤ → Option ℕ → Type 0
@@ -67,15 +69,6 @@ within-less : (f : Option ℕ) (w z : ℤ) → dn z ≡ 0 → Within w f → Wit
 within-less none w z h k = k
 within-less (some f) w z h k = omega (arith, sub-parts w z)
 
--- ---- leaving and fitting by their cases
-pub leave-cases : (P : Thread → Type 0) (t : ℕ) (x : Thread) → P x → (isNon (x .phase) ≡ true → P (idle x)) → P (leave t x)
-unfolding leave
-leave-cases P t x stay go = by-test P (isNon (x .phase)) (λ n. by-test P (ltZ (pos (x .share * t)) (x .w .0)) (λ _. stay) (λ _. go n)) (λ _. stay)
-
-pub fit-cases : (P : Thread → Type 0) (room : ℕ) (x : Thread) → P x → (ltZ (x .e .0 -ℤ x .w .0) (pos room) ≡ true → P (postpone x)) → P (fit room x)
-unfolding fit
-fit-cases P room x stay later = by-test P (contends x) (λ _. by-test P (ltZ (x .e .0 -ℤ x .w .0) (pos room)) later (λ _. stay)) (λ _. stay)
-
 -- ---- each change of a thread keeps it in agreement with the account that the change makes
 module _ {q u p : ℕ} {g : Account} (x : Thread) (a : Agrees q u p g x) where
   span : x .share * x .period ≡ u * p
@@ -94,7 +87,7 @@ module _ {q u p : ℕ} {g : Account} (x : Thread) (a : Agrees q u p g x) where
       go {f = f} {w = w} (ahead k) = ahead (within-less f w z h k)
 
   pub fit-agrees : (room : ℕ) → room ≤ q → Agrees q u p g (fit room x)
-  fit-agrees room h = fit-cases (Agrees q u p g) room x a (λ s. changed (a .count) (go (a .stage) s))
+  fit-agrees room h = by-fitting (Agrees q u p g) room x a (λ _ s. changed (a .count) (go (a .stage) s))
     where
       go : {f : Option ℕ} {w e : ℤ} {ph : Phase} {js : List Job} → Stage q u p f w e ph js → ltZ (e -ℤ w) (pos room) ≡ true → Stage q u p f w (e +ℤ pos (x .share * x .period)) ph js
       go resting s = resting
@@ -110,12 +103,7 @@ module _ {q u p : ℕ} {g : Account} (x : Thread) (a : Agrees q u p g x) where
       go (ahead k) n = resting
 
   pub leave-agrees : (t : ℕ) → Agrees q u p g (leave t x)
-  leave-agrees t = leave-cases (Agrees q u p g) t x a (λ n. idle-agrees (apart (x .phase) (true-T n)))
-    where
-      apart : (ph : Phase) → T (isNon ph) → T (isContending ph) → ⊥
-      apart Inactive n c = c
-      apart Contending n c = n
-      apart NonContending n c = c
+  leave-agrees t = by-leaving (Agrees q u p g) t x a (λ n _. idle-agrees (apart (x .phase) (true-T n)))
 
   pub drop-agrees : Agrees q u p (withWaiting g (take 1 (g .waiting))) (headOnly x)
   unfolding headOnly

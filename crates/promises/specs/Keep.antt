@@ -7,19 +7,19 @@ use native.Mathlib.Nat.{le-refl}
 use native.Mathlib.Omega.{arith}
 use borrow.Author.Tests.{eqb-false}
 use lib.Dec.{T, eqb}
-use lib.IntN.{pos, _-ℤ_}
-use lib.Signed.{ltZ}
+use lib.IntN.{pos}
 use lib.ListN.{length, take, set, length-set}
 use Rattle.lists.specs.Sum.{sumBy, sum-map, sum-store}
 use Rattle.lists.specs.Take.{sum-put, sum-upd-le, sum-upd, all-upd, sum-map-le, at-upd}
 use Rattle.lists.specs.MapTo.{mapTo, map-length}
 use Rattle.lists.specs.All.{All, all-at, all-set, all-map}
 use Rattle.rules.specs.Limits.{nobody}
-use Rattle.rules.specs.Threads.{Thread, State, blank, at, scaled, isNon, contends, active, activeIn, idle, loses, loseAt, freeShare, freeOf}
+use Rattle.rules.specs.Threads.{Thread, State, blank, at, scaled, active, activeIn, loses, loseAt, freeShare, freeOf}
 use Rattle.rules.specs.Leaving.{leave}
 use Rattle.rules.specs.Fitting.{fit, postpone}
 use Rattle.rules.specs.Charge.{beneficiary, benefits}
-use Rattle.promises.specs.Cases.{test, by-test, both}
+use Rattle.promises.specs.Cases.{by-test, both, true-T}
+use Rattle.promises.specs.Branches.{by-leaving, by-fitting}
 use Rattle.promises.specs.Deadlines.{earliest-in}
 use Rattle.promises.specs.Shares.{others}
 use Rattle.promises.specs.Good.{share, deficit, claim, Fine, Rows, Ahead}
@@ -66,18 +66,12 @@ module _ {m q t : ℕ} {xs : List Thread} (r : Rows m q t xs) where
 
 -- ---- leaving
 leave-share : (t : ℕ) (x : Thread) → leave t x .share ≡ x .share
-unfolding leave
-leave-share t x = by-test P (isNon (x .phase)) (λ _. by-test P (ltZ (scaled x t) (x .w .0)) (λ _. refl) (λ _. refl)) (λ _. refl)
-  where
-    P : Thread → Type 0
-    P y = y .share ≡ x .share
+leave-share t x = by-leaving (λ (y : Thread). y .share ≡ x .share) t x refl (λ _ _. refl)
 
 leave-claim : (t k n : ℕ) (x : Thread) → claim t k n (leave t x) ≤ claim t k n x
-unfolding leave
 leave-claim t k n x =
-    test (λ c. claim t k n (cond c (cond (ltZ (scaled x t) (x .w .0)) x (idle x)) x) ≤ claim t k n x) (isNon (x .phase))
-    (λ p. by-test (λ (y : Thread). claim t k n y ≤ claim t k n x) (ltZ (scaled x t) (x .w .0)) (λ _. omega arith) (λ e. let h = ltZ-false (scaled x t) (x .w .0) e in claim-leaves t k n x (pos 0) (pos 0) p (omega arith)))
-    (λ _. omega arith)
+    by-leaving (λ (y : Thread). claim t k n y ≤ claim t k n x) t x (omega arith)
+    (λ p e. let h = ltZ-false (scaled x t) (x .w .0) e in claim-leaves t k n x (pos 0) (pos 0) (true-T p) (omega arith))
 
 pub leave-rows : {m q t : ℕ} {xs : List Thread} → Rows m q t xs → Rows m q t (mapTo m (leave t) xs) × All (Ahead t) (take m (mapTo m (leave t) xs))
 leave-rows {m} {q} {t} {xs} r = (
@@ -89,18 +83,12 @@ leave-rows {m} {q} {t} {xs} r = (
 module _ (room : ℕ) (x : Thread) where
   -- what fitting does not see
   fit-same : {A : Type 0} (f : Thread → A) → f (postpone x) ≡ f x → f (fit room x) ≡ f x
-  unfolding fit
-  fit-same f e = by-test P (contends x) (λ _. by-test P (ltZ (x .e .0 -ℤ x .w .0) (pos room)) (λ _. e) (λ _. refl)) (λ _. refl)
-    where
-      P : Thread → Type 0
-      P y = f y ≡ f x
+  fit-same f e = by-fitting (λ (y : Thread). f y ≡ f x) room x refl (λ _ _. e)
 
   fit-claim : (t k n : ℕ) → claim t k n (fit room x) ≤ claim t k n x
-  unfolding fit
   fit-claim t k n =
-      test (λ c. claim t k n (cond c (cond (ltZ (x .e .0 -ℤ x .w .0) (pos room)) (postpone x) x) x) ≤ claim t k n x) (contends x)
-      (λ c. by-test (λ (y : Thread). claim t k n y ≤ claim t k n x) (ltZ (x .e .0 -ℤ x .w .0) (pos room)) (λ _. let s = plus-parts (x .e .0) (x .share * x .period) in claim-postponed t k n x _ c (omega arith)) (λ _. omega arith))
-      (λ _. omega arith)
+      by-fitting (λ (y : Thread). claim t k n y ≤ claim t k n x) room x (omega arith)
+      (λ c _. let s = plus-parts (x .e .0) (x .share * x .period) in claim-postponed t k n x _ (true-T c) (omega arith))
 
 pub fit-share : (room : ℕ) (x : Thread) → fit room x .share ≡ x .share
 fit-share room x = fit-same room x (λ y. y .share) refl

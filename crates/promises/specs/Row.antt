@@ -24,6 +24,12 @@ use Rattle.promises.specs.Good.{Shape, Fine, Ahead}
 abbrev pub Fits : ℕ → Thread → Type 0
 Fits room x = T (contends x) → up (x .w .0) + dn (x .e .0) + room ≤ up (x .e .0) + dn (x .w .0)
 
+-- no phase is two
+pub apart : (p : Phase) → T (isNon p) → T (isContending p) → ⊥
+apart Inactive n c = c
+apart Contending n c = n
+apart NonContending n c = c
+
 module _ (q t : ℕ) (x : Thread) (f : Fine q t x) where
   -- the same row with another phase, W, E and number of jobs
   pub fine-as : (p : Phase) (w e : ℤ) (n : ℕ) → n ≤ maxJobs → Shape p n w e → w ≼ e → (T (isContending p) → x .share * t ≤ up e) → dn e ≡ 0 → up w ≤ q * t → up e ≤ q * t + q + x .share * x .period → Fine q t (withJobs (with x p w e) n)
@@ -77,11 +83,6 @@ module _ (q t : ℕ) (x : Thread) (f : Fine q t x) where
     where
       P : Thread → Type 0
       P y = Fine q t y × Ahead t y
-
-      apart : (p : Phase) → T (isNon p) → T (isContending p) → ⊥
-      apart Inactive n c = c
-      apart Contending n c = n
-      apart NonContending n c = c
 
   -- ---- arrivals
   pub fine-arrive : Ahead t x → x .jobs < maxJobs → Fine q t (arrive t x)

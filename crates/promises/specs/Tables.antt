@@ -18,7 +18,7 @@ use Rattle.rules.specs.Limits.{maxApp, nobody}
 use Rattle.rules.specs.Threads.{Thread, State, blank, at, withRows, isInactive, active, activeIn, freeShare, free, freeOf, sooner, closer, earliest, loses, loseAt}
 use Rattle.rules.specs.Leaving.{leave, gone}
 use Rattle.rules.specs.Charge.{beneficiary, benefits}
-use Rattle.promises.specs.Cases.{by-test}
+use Rattle.promises.specs.Cases.{by-test, and-false}
 use Rattle.promises.specs.Deadlines.{earliest-in}
 use Rattle.promises.specs.Sound.{Sound}
 
@@ -74,28 +74,27 @@ table-more g g' f app v l h inv e same a k = go (ℕ-discrete a app)
     go (yes p) = subst (λ b. getD (set f app v) b 0 ≡ g' b) (sym p) (getD-set-same f app v 0 (omega arith) ∙ e)
     go (no n) = getD-set-other f app a v 0 n ∙ inv a k ∙ sym (same a n)
 
-and-no : (b : Bool) → (b && false) ≡ false
-and-no true = refl
-and-no false = refl
-
 -- ---- the two tables
 module _ (xs : List Thread) (i : ℕ) where
+  -- thread i is not of the application a, whatever else is asked of it
+  and-other : (a : ℕ) → (a ≡ at xs i .app → ⊥) → (b : Bool) → (b && eqb (at xs i .app) a) ≡ false
+  and-other a n b = ap (λ c. b && c) (ne-eqb (at xs i .app) a (λ e. n (sym e))) ∙ and-false b
+
   pub free-other : i < length xs → (a : ℕ) → (a ≡ at xs i .app → ⊥) → free a (i + 1) xs ≡ free a i xs
   unfolding freeShare
-  free-other l a n = sum-more (freeShare a) xs i blank l ∙ zero-more (and-other (isInactive (at xs i .phase)))
+  free-other l a n = sum-more (freeShare a) xs i blank l ∙ zero-more (and-other a n (isInactive (at xs i .phase)))
     where
-      and-other : (b : Bool) → (b && eqb (at xs i .app) a) ≡ false
-      and-other b = ap (λ c. b && c) (ne-eqb (at xs i .app) a (λ e. n (sym e))) ∙ and-no b
-
       zero-more : (isInactive (at xs i .phase) && eqb (at xs i .app) a) ≡ false → free a i xs + cond (isInactive (at xs i .phase) && eqb (at xs i .app) a) (at xs i .share) 0 ≡ free a i xs
       zero-more e = rw e (omega arith)
 
   pub first-other : (a : ℕ) → (a ≡ at xs i .app → ⊥) → earliest (activeIn a) (i + 1) xs ≡ earliest (activeIn a) i xs
   unfolding earliest
-  first-other a n = ap (λ k. earliest (activeIn a) k xs) (add-one i) ∙ ap (λ c. cond c (cond (eqb (earliest (activeIn a) i xs) nobody) i (cond (sooner (at xs i) (at xs (earliest (activeIn a) i xs))) i (earliest (activeIn a) i xs))) (earliest (activeIn a) i xs)) (and-other (not (isInactive (at xs i .phase))))
+  first-other a n =
+      ap (λ k. earliest (activeIn a) k xs) (add-one i)
+      ∙ ap (λ c. cond c (cond (eqb b nobody) i (cond (sooner (at xs i) (at xs b)) i b)) b) (and-other a n (not (isInactive (at xs i .phase))))
     where
-      and-other : (b : Bool) → (b && eqb (at xs i .app) a) ≡ false
-      and-other b = ap (λ c. b && c) (ne-eqb (at xs i .app) a (λ e. n (sym e))) ∙ and-no b
+      b : ℕ
+      b = earliest (activeIn a) i xs
 
 -- no thread is of an application that there is not
 pub free-none : {s : State} → Sound s → (a : ℕ) → maxApp < a → (n : ℕ) → n ≤ s .count → free a n (s .threads) ≡ 0

@@ -4,13 +4,13 @@ use mathlib.Core.Bool.{Bool, true, false, cond}
 use mathlib.Core.List.{List, [], _∷_}
 use Prim.Native.Nat.{ℕ, zero, suc, _+_, _-_}
 use lib.Dec.{eqb, ltb}
-use lib.IntN.{ℤ, pos, _-ℤ_}
+use lib.IntN.{ℤ, pos}
 use lib.Signed.{ltZ}
-use lib.ListN.{length, set}
+use lib.ListN.{set}
 use Rattle.lists.specs.MapTo.{map-keeps}
 use Rattle.lists.specs.Take.{at-upd}
-use Rattle.rules.specs.Limits.{apps, nobody, maxJobs, clockEnd}
-use Rattle.rules.specs.Threads.{Thread, State, Phase, Inactive, Contending, NonContending, withJobs, blank, at, scaled, isNon, contends, idle, loses, loseAt, freeOf}
+use Rattle.rules.specs.Limits.{apps, nobody}
+use Rattle.rules.specs.Threads.{Thread, State, Phase, Inactive, Contending, NonContending, withJobs, blank, at, scaled, idle, loses, loseAt, freeOf}
 use Rattle.rules.specs.Table.{Answered}
 use Rattle.rules.specs.Completion.{goesOn, stays, ends, freed, gives, completing, afterCompletion, completion}
 use Rattle.rules.specs.Leaving.{leave, gone}
@@ -24,6 +24,7 @@ use Rattle.rules.specs.Run.{Ran, stateAfter, ran}
 use Rattle.rules.specs.Calls as calls
 use Rattle.rules.specs.Calls.{Call, apply, after}
 use Rattle.promises.specs.Cases.{by-test}
+use Rattle.promises.specs.Branches.{by-leaving, by-fitting, by-completion, by-arrival, by-drop, by-step, by-run}
 
 -- y has the row of x: application, share and period
 abbrev pub SameRow : Thread → Thread → Type 0
@@ -51,12 +52,10 @@ same-then a b = record {
 -- ---- the changes of one thread
 module _ (x y : Thread) (k : SameRow x y) where
   row-leave : (t : ℕ) → SameRow x (leave t y)
-  unfolding leave
-  row-leave t = by-test (SameRow x) (isNon (y .phase)) (λ _. by-test (SameRow x) (ltZ (scaled y t) (y .w .0)) (λ _. k) (λ _. k)) (λ _. k)
+  row-leave t = by-leaving (SameRow x) t y k (λ _ _. k)
 
   row-fit : (room : ℕ) → SameRow x (fit room y)
-  unfolding fit
-  row-fit room = by-test (SameRow x) (contends y) (λ _. by-test (SameRow x) (ltZ (y .e .0 -ℤ y .w .0) (pos room)) (λ _. k) (λ _. k)) (λ _. k)
+  row-fit room = by-fitting (SameRow x) room y k (λ _ _. k)
 
   row-arrive : (t : ℕ) → SameRow x (arrive t y)
   unfolding arrive
@@ -110,13 +109,10 @@ unfolding moved charged
 charge-same s c = record { count = refl; q = refl; row = row-set (gains (roomOf s (at (s .threads) c))) (λ x y k. k) (s .threads) (benefited (at (s .threads) c .app) s) c (row-benefits (at (s .threads) c .app) s apps (s .threads)) }
 
 pub step-same : (s : State) → SameTable s (stepped s .state)
-unfolding stepped
 step-same s =
-    by-test P (eqb (s .clock .0) clockEnd) (λ _. same-table s)
-    (λ _. same-then (ready-same s) (by-test (λ (r : Stepped). SameTable (ready s) (r .state)) (eqb (chosen (ready s)) nobody) (λ _. idle-same (ready s)) (λ _. charge-same (ready s) (chosen (ready s)))))
-  where
-    P : Stepped → Type 0
-    P r = SameTable s (r .state)
+    by-step s (λ (r : Stepped). SameTable s (r .state)) (λ _. same-table s)
+    (λ _ _. same-then (ready-same s) (idle-same (ready s)))
+    (λ _ _. same-then (ready-same s) (charge-same (ready s) (chosen (ready s))))
 
 pub steps-same : (n : ℕ) (s : State) → SameTable s (stateAfter n s)
 unfolding stateAfter
@@ -142,33 +138,25 @@ module _ (s : State) where
   Same r = SameTable s (r .state)
 
   completion-same : (i : ℕ) → SameTable s (completion s i .state)
-  unfolding completion afterCompletion
+  unfolding afterCompletion
   completion-same i =
-      by-test Same (ltb i (s .count))
-      (λ _. by-test Same (s .closed) (λ _. same-table s)
-      (λ _. by-test Same (eqb i (s .had)) (λ _. by-test Same (s .completed) (λ _. same-table s) (λ _. record { count = refl; q = refl; row = completing-same (s .clock .0) (s .count) i (s .threads) })) (λ _. same-table s)))
-      (λ _. same-table s)
+      by-completion s Same i (λ _. same-table s)
+      (λ _ _ _ _. record { count = refl; q = refl; row = completing-same (s .clock .0) (s .count) i (s .threads) })
 
   arrival-same : (i : ℕ) → SameTable s (arrival s i .state)
-  unfolding arrival
-  arrival-same i =
-      by-test Same (ltb i (s .count))
-      (λ _. by-test Same (ltb (at (s .threads) i .jobs) maxJobs) (λ _. let g = gone-same s in record { count = g .count; q = g .q; row = row-set (arrive (gone s .clock .0)) (λ x y k. row-arrive x y k (gone s .clock .0)) (s .threads) (gone s .threads) i (g .row) }) (λ _. same-table s))
-      (λ _. same-table s)
+  arrival-same i = by-arrival s Same i (λ _. same-table s) (λ _ _. let g = gone-same s in record {
+    count = g .count;
+    q = g .q;
+    row = row-set (arrive (gone s .clock .0)) (λ x y k. row-arrive x y k (gone s .clock .0)) (s .threads) (gone s .threads) i (g .row);
+  })
 
   drop-same : (i : ℕ) → SameTable s (dropped s i .state)
-  unfolding dropped
-  drop-same i = by-test Same (ltb i (s .count)) (λ _. record { count = refl; q = refl; row = row-set headOnly row-head (s .threads) (s .threads) i (λ j. same-row (at (s .threads) j)) }) (λ _. same-table s)
+  drop-same i =
+      by-drop s Same i (λ _. same-table s)
+      (λ _. record { count = refl; q = refl; row = row-set headOnly row-head (s .threads) (s .threads) i (λ j. same-row (at (s .threads) j)) })
 
   run-same : (to : ℕ) (row : List ℕ) → SameTable s (ran s to row .result .state)
-  unfolding ran
-  run-same to row =
-      by-test P (ltb to (s .clock .0)) (λ _. same-table s)
-      (λ _. by-test P (ltb clockEnd to) (λ _. same-table s)
-      (λ _. by-test P (ltb (length row) (to - s .clock .0)) (λ _. same-table s) (λ _. steps-same (to - s .clock .0) s)))
-    where
-      P : Ran → Type 0
-      P r = SameTable s (r .result .state)
+  run-same to row = by-run s (λ (r : Ran). SameTable s (r .result .state)) to row (λ _. same-table s) (steps-same (to - s .clock .0) s)
 
 pub call-same : (c : Call) (s : State) → SameTable s (apply s c)
 call-same (calls.complete i) s = completion-same s i

@@ -109,9 +109,9 @@ head-some q n e =
     let p3 = peel (eqb n 0) 2 _ (p2 .1) in
     eqb-false n 0 (p3 .0)
 
-head-good : (r : Reading) (q n : ℕ) → headAnswer q n ≡ Done → GoodReading (headed q n r)
+head-good : (q n : ℕ) → headAnswer q n ≡ Done → GoodReading (headed q n)
 unfolding rowsAnswer
-head-good r q n e = record {
+head-good q n e = record {
   few = omega arith;
   long = length-replicate maxThreads noRow;
   head = λ _. e;
@@ -221,7 +221,7 @@ unfolding eventRead
 event-good {r} g place e = as-good (first (beforeTicks (r .state) e) (eventOf (r .state) e .answer)) _ r (λ _. with-good g place (given-moment (given-steps (ticksBefore (r .state) e) (g .given)) e)) g
 
 placed-good : {r : Reading} → GoodReading r → (e : Record) → inPlace r e ≡ true → GoodReading (placedRead r e .reading)
-placed-good {r} g (Head q n) p = as-good (headAnswer q n) _ r (λ d. head-good r q n d) g
+placed-good {r} g (Head q n) p = as-good (headAnswer q n) _ r (λ d. head-good q n d) g
 placed-good {r} g (Row x) p = as-good (rowAnswer usualPeriod (r .table .q) (sharesTo (r .table .rows) (r .rows)) x) _ r (λ d. row-good g p x d) g
 placed-good g (Arrival m i) p = event-good g p (Arrival m i)
 placed-good g (Completion m i) p = event-good g p (Completion m i)
