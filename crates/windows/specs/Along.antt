@@ -2,13 +2,13 @@
 use mathlib.Core.Path.{_≡_, refl, sym, ap, _∙_, subst}
 use mathlib.Core.Bool.{Bool}
 use mathlib.Core.List.{List, [], _++_, append-nil, append-assoc}
-use Prim.Native.Nat.{ℕ, _+_, _-_, _≤_, _<_}
+use Prim.Native.Nat.{ℕ, _+_, _-_, _≤_}
 use native.Mathlib.Nat.{add-zero}
 use native.Mathlib.Omega.{arith}
 use lib.ListN.{length, drop, length-drop, length-append}
 use lib.Seq.{sets, length-sets, drop-drop}
 use Rattle.lists.specs.Sets.{sets-chain}
-use Rattle.windows.specs.Advance.{Progress, Move, stays, moves, move, Advanced, still, joined, advance}
+use Rattle.windows.specs.Advance.{Progress, stays, moves, move, Advanced, joined, advance}
 use Rattle.windows.specs.Goes.{Less, move-less, advance-moves, advance-stays}
 
 -- where a call stands: the byte of the window, the byte of the output, and the progress

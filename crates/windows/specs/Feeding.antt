@@ -5,10 +5,11 @@ use mathlib.Core.List.{List, [], _∷_, _++_, append-nil, append-assoc}
 use Prim.Native.Nat.{ℕ, zero, suc, _+_, _-_, _≤_, _<_}
 use native.Mathlib.Omega.{arith}
 use borrow.Author.Tests.{leb-true, eq-eqb, ne-eqb}
-use lib.Dec.{eqb, ltb, leb}
+use lib.Dec.{ltb, leb}
 use lib.ListN.{length, getD, take, drop, length-drop, length-append, take-append-drop, drop-of-length-le}
-use lib.Seq.{drop-append-le, drop-drop, getD-drop, getD-take}
+use lib.Seq.{drop-append-le, drop-drop, getD-drop}
 use Rattle.rules.specs.Table.{Answer, Done, Refused}
+use Rattle.rules.specs.Threads.{State}
 use Rattle.rules.specs.Step.{stepped}
 use Rattle.rules.specs.Records.{Record, Decoded, Known, Whole, frameOf, bodyOf, decoded, le16}
 use Rattle.rules.specs.Records as records
@@ -18,7 +19,7 @@ use Rattle.promises.specs.Cases.{by-test}
 use Rattle.windows.specs.Frames.{Shown, shown, none, bad, part, full, ended, grows-bad, grows-full, grows-body}
 use Rattle.windows.specs.Ticks.{lines-first, due-after, onward-after}
 use Rattle.windows.specs.Fuel.{list-any, list-open}
-use Rattle.windows.specs.Advance.{Progress, longest, widest, farthest, begun, finished, went, ticked, Move, stays, moves, stops, readMove, recordMove, decodedMove, frameMove, move, Advanced, still, joined, moved, advanced, advance}
+use Rattle.windows.specs.Advance.{Progress, longest, widest, farthest, begun, finished, ticked, Move, stays, moves, stops, readMove, recordMove, decodedMove, frameMove, move, Advanced, moved, advanced, advance}
 
 -- what is still to be written, from a progress and the rest of the input
 abbrev pub rest : Progress → List ℕ → List ℕ
@@ -44,7 +45,7 @@ Kept p w s (moves n t q) = (n ≤ length w) × (rest p s ≡ t ++ rest q (drop n
 
 -- ---- one move of a listing that is not done
 module _ (p : Progress) (on-going : p .done ≡ false) (w s : List ℕ) where
-  opened : rest p s ≡ listFrame (λ r b v. listFrom (length s) r b v) (p .reading) (p .place) s (frameOf s)
+  opened : rest p s ≡ listFrame (listFrom (length s)) (p .reading) (p .place) s (frameOf s)
   opened = rw on-going (list-open (p .reading) (p .place) s)
 
   -- the last line
@@ -58,7 +59,11 @@ module _ (p : Progress) (on-going : p .done ≡ false) (w s : List ℕ) where
     refused-kept m d = last-line (refusalLine m (p .place)) (opened ∙ rw (frame, d))
 
     module _ (e : Record) (known : decoded kind (bodyOf s n) ≡ Known e) where
-      known-rest : (q : Progress) → q .done ≡ false → rest q s ≡ linesBefore (q .reading) e ++ onward (recordRead (q .reading) e .answer) (λ r b v. listFrom (length s) r b v) (recordRead (q .reading) e .reading) (q .place) n s
+      -- what is written after the ticks before it
+      abbrev then-on : Progress → List ℕ
+      then-on q = onward (recordRead (q .reading) e .answer) (listFrom (length s)) (recordRead (q .reading) e .reading) (q .place) n s
+
+      known-rest : (q : Progress) → q .done ≡ false → rest q s ≡ linesBefore (q .reading) e ++ then-on q
       known-rest q o = rw o (list-open (q .reading) (q .place) s ∙ rw (frame, known))
 
       -- no tick is due
@@ -69,21 +74,24 @@ module _ (p : Progress) (on-going : p .done ≡ false) (w s : List ℕ) where
 
       -- a tick is due
       tick-kept : (d : ℕ) → ticksDue (p .reading) e ≡ suc d → Kept p w s (moves 0 (tickLine (p .reading .state)) (ticked p))
-      tick-kept d due = (omega arith, known-rest p on-going ∙ before ∙ ap (λ (t : List ℕ). tickLine (p .reading .state) ++ t) (sym (known-rest (ticked p) on-going ∙ after)))
+      tick-kept d due = (omega arith, known-rest p on-going ∙ before ∙ ap (λ (t : List ℕ). tickLine x ++ t) (sym (known-rest (ticked p) on-going ∙ after)))
         where
-          on : List ℕ
-          on = onward (recordRead (p .reading) e .answer) (λ r b v. listFrom (length s) r b v) (recordRead (p .reading) e .reading) (p .place) n s
+          x : State
+          x = p .reading .state
 
-          before : linesBefore (p .reading) e ++ on ≡ tickLine (p .reading .state) ++ (tickLines d (stepped (p .reading .state) .state) ++ on)
+          z : State
+          z = stepped x .state
+
+          before : linesBefore (p .reading) e ++ then-on p ≡ tickLine x ++ (tickLines d z ++ then-on p)
           before =
-              ap (λ (k : ℕ). tickLines k (p .reading .state) ++ on) due
-              ∙ ap (λ (t : List ℕ). t ++ on) (lines-first d (p .reading .state))
-              ∙ append-assoc (tickLine (p .reading .state)) (tickLines d (stepped (p .reading .state) .state)) on
+              ap (λ (k : ℕ). tickLines k x ++ then-on p) due
+              ∙ ap (λ (t : List ℕ). t ++ then-on p) (lines-first d x)
+              ∙ append-assoc (tickLine x) (tickLines d z) (then-on p)
 
-          after : linesBefore (ticked p .reading) e ++ onward (recordRead (ticked p .reading) e .answer) (λ r b v. listFrom (length s) r b v) (recordRead (ticked p .reading) e .reading) (p .place) n s ≡ tickLines d (stepped (p .reading .state) .state) ++ on
+          after : linesBefore (ticked p .reading) e ++ then-on (ticked p) ≡ tickLines d z ++ then-on p
           after =
-              ap (λ (k : ℕ). tickLines k (stepped (p .reading .state) .state) ++ onward (recordRead (ticked p .reading) e .answer) (λ r b v. listFrom (length s) r b v) (recordRead (ticked p .reading) e .reading) (p .place) n s) (due-after (p .reading) e d due)
-              ∙ ap (λ (t : List ℕ). tickLines d (stepped (p .reading .state) .state) ++ t) (onward-after (p .reading) e d due (λ r b v. listFrom (length s) r b v) (p .place) n s)
+              ap (λ (k : ℕ). tickLines k z ++ then-on (ticked p)) (due-after (p .reading) e d due)
+              ∙ ap (λ (t : List ℕ). tickLines d z ++ t) (onward-after (p .reading) e d due (listFrom (length s)) (p .place) n s)
 
       known-kept : Kept p w s (recordMove p n e)
       known-kept = by (ticksDue (p .reading) e) refl

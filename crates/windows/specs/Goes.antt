@@ -1,7 +1,7 @@
 -- Every move takes a byte or writes one, so that a call ends; and a call with room and a wide enough window goes on.
 use mathlib.Core.Path.{_≡_, refl, sym, ap, _∙_, subst}
 use mathlib.Core.Bool.{Bool, true, false, cond, _||_}
-use mathlib.Core.List.{List, [], _∷_, _++_, append-assoc}
+use mathlib.Core.List.{List, [], _∷_, _++_}
 use Prim.Native.Nat.{ℕ, zero, suc, _+_, _-_, _≤_, _<_}
 use native.Mathlib.Omega.{arith}
 use borrow.Author.Tests.{ltb-true, ltb-false, le-leb, eq-eqb, ne-eqb}
@@ -10,17 +10,16 @@ use lib.ListN.{length, drop, length-drop, length-append}
 use Rattle.rules.specs.Limits.{nobody, clockEnd}
 use Rattle.rules.specs.Threads.{State}
 use Rattle.rules.specs.Table.{Answer, Done, Refused}
-use Rattle.rules.specs.Step.{Outcome, Grant, Idle, Stepped, stepped}
+use Rattle.rules.specs.Step.{Grant, Idle, Stepped, stepped}
 use Rattle.rules.specs.Records.{Record, Decoded, Known, frameOf, bodyOf, decoded, le16}
 use Rattle.rules.specs.Records as records
 use Rattle.rules.specs.Reading.{Reading, atEvents, ticksDue, recordRead}
-use Rattle.rules.specs.Listing.{bytes, decimal, line, tickLineAs, tickLine, refusalLine, endLine, ending}
+use Rattle.rules.specs.Listing.{bytes, decimal, line, tickLineAs, tickLine, refusalLine, ending}
 use Rattle.promises.specs.Cases.{by-test, true-false}
-use Rattle.promises.specs.Taken.{outcomeTo, step-by}
+use Rattle.promises.specs.Taken.{step-by}
 use Rattle.windows.specs.Frames.{Shown, shown, none, bad, part, full}
 use Rattle.windows.specs.Ticks.{before-end}
-use Rattle.windows.specs.Advance.{Progress, longest, widest, farthest, finished, ticked, Move, stays, moves, stops, readMove, recordMove, decodedMove, frameMove, move, Advanced, still, joined, moved, advanced, advance}
-use Rattle.windows.specs.Feeding.{Bytes}
+use Rattle.windows.specs.Advance.{Progress, longest, widest, farthest, finished, ticked, Move, stays, moves, stops, readMove, recordMove, decodedMove, frameMove, move, still, joined, moved, advanced, advance}
 
 -- ---- a line is never empty
 pub line-some : (ws : List (List ℕ)) → 1 ≤ length (line ws)
@@ -123,10 +122,7 @@ abbrev Goes : Move → Type 0
 Goes stays = ⊥
 Goes (moves n t q) = Unit
 
-module _ (last : Bool) (p : Progress) (w : List ℕ) (byte : Bytes w) where
-  widest-max : le16 w 0 < 65536
-  widest-max = let a = byte 0 in let b = byte 1 in omega arith
-
+module _ (last : Bool) (p : Progress) (w : List ℕ) where
   read-goes : (n : ℕ) (a : Answer) (r : Reading) → Goes (readMove p n a r)
   read-goes n Done r = tt
   read-goes n (Refused m) r = tt

@@ -1,7 +1,6 @@
 -- The line of a tick, by the state after it: who had the tick stands there, with E as it was at the choice.
-use mathlib.Core.Path.{_≡_, refl, sym, ap, _∙_, subst}
-use mathlib.Core.Bool.{Bool, true, false, cond}
-use mathlib.Core.List.{List}
+use mathlib.Core.Path.{_≡_, refl, sym, ap, _∙_}
+use mathlib.Core.Bool.{Bool, true, false}
 use Prim.Native.Nat.{ℕ}
 use borrow.Author.Tests.{eq-eqb, ne-eqb}
 use lib.Dec.{eqb}
@@ -10,7 +9,7 @@ use Rattle.lists.specs.Take.{at-upd}
 use Rattle.rules.specs.Limits.{nobody, apps, clockEnd}
 use Rattle.rules.specs.Threads.{Thread, State, blank, at}
 use Rattle.rules.specs.Fitting.{roomOf}
-use Rattle.rules.specs.Choice.{chosen, idled}
+use Rattle.rules.specs.Choice.{chosen}
 use Rattle.rules.specs.Charge.{gains, benefits, charged, moved}
 use Rattle.rules.specs.Step.{Outcome, Grant, Idle, Stepped, ready, stepped}
 use Rattle.rules.specs.Listing.{grantLine, idleLine, tickLineAs, tickLine}

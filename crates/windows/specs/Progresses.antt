@@ -1,6 +1,6 @@
 -- What holds of every progress that calls gave: its reading is a given one.
 use mathlib.Core.Path.{_≡_, refl, sym, ap, _∙_, subst}
-use mathlib.Core.Bool.{Bool, true, false, cond, _||_}
+use mathlib.Core.Bool.{Bool, _||_}
 use mathlib.Core.List.{List, [], _∷_, _++_}
 use Prim.Native.Nat.{ℕ, zero, suc, _+_, _-_}
 use native.Mathlib.Omega.{arith}
@@ -15,7 +15,7 @@ use Rattle.rules.specs.Reading.{Reading, ticksDue, recordRead}
 use Rattle.rules.specs.Input.{GivenReading}
 use Rattle.promises.specs.Cases.{by-test}
 use Rattle.windows.specs.Ticks.{before-end, due-events}
-use Rattle.windows.specs.Advance.{Progress, longest, widest, farthest, begun, ticked, Move, stays, moves, stops, readMove, recordMove, decodedMove, frameMove, move, moved, advanced, advance, Call, advances, GivenProgress}
+use Rattle.windows.specs.Advance.{Progress, longest, widest, farthest, begun, ticked, Move, stays, moves, readMove, recordMove, decodedMove, frameMove, move, moved, advanced, advance, Call, advances, GivenProgress}
 use Rattle.windows.specs.Readings.{given-fresh, reading-by, reading-ticks}
 
 -- the reading after a move is a given one

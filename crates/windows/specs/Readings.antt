@@ -5,10 +5,10 @@ use mathlib.Core.List.{List, [], _∷_, _++_}
 use Prim.Native.Nat.{ℕ, zero, suc, _+_, _-_, _≤_, _<_}
 use native.Mathlib.Omega.{arith}
 use borrow.Author.Tests.{eqb-false, eqb-true, ltb-true, ltb-false, ne-eqb, lt-ltb, le-ltb, not-true}
-use lib.Dec.{eqb, ltb}
+use lib.Dec.{eqb}
 use lib.ListN.{length, set, length-set, length-replicate}
 use lib.Seq.{getD-set-same, getD-set-other}
-use Rattle.rules.specs.Limits.{maxQ, maxThreads, clockEnd, usualPeriod}
+use Rattle.rules.specs.Limits.{maxThreads, clockEnd, usualPeriod}
 use Rattle.rules.specs.Threads.{State}
 use Rattle.rules.specs.Table.{Table, Answer, Done, Refused, first, headAnswer, rowAnswer, rowAt, sharesTo, rowsAnswer, tableAnswer, noRow, start, noSchedule, opening}
 use Rattle.rules.specs.Table as table
@@ -19,7 +19,7 @@ use Rattle.rules.specs.Records as records
 use Rattle.rules.specs.Records.{Record, Head, Row, Arrival, Completion, RunTo, Drop, Decoded, Known, moment, decoded}
 use Rattle.rules.specs.Reading.{Reading, Read, fresh, atHead, atRows, atEvents, inPlace, readAs, headed, rowed, withRow, withState, beforeTicks, ticksBefore, atItsMoment, eventOf, eventRead, placedRead, recordRead, decodedRead, read}
 use Rattle.rules.specs.Input.{readings, GivenReading}
-use Rattle.promises.specs.Cases.{by-test, true-false}
+use Rattle.promises.specs.Cases.{by-test, true-false, and-false}
 use Rattle.promises.specs.Admission.{rows-more}
 use Rattle.promises.specs.Begin.{head-admitted}
 use Rattle.promises.specs.Always.{given-opening, given-by, given-steps}
@@ -57,10 +57,6 @@ both-true : (a b : Bool) → (a && b) ≡ true → (a ≡ true) × (b ≡ true)
 both-true true b e = (refl, e)
 both-true false b e = absurd (true-false (sym e))
 
-never : (a : Bool) → (a && false) ≡ false
-never true = refl
-never false = refl
-
 pub rows-open : (r : Reading) → atRows r ≡ true → (r .table .threads ≡ 0 → ⊥) × (r .rows < r .table .threads)
 rows-open r e = let p = both-true (not (atHead r)) _ e in (eqb-false _ _ (not-true _ (p .0)), ltb-true _ _ (p .1))
 
@@ -69,7 +65,7 @@ pub rows-come : (r : Reading) → r .rows < r .table .threads → atRows r ≡ t
 rows-come r h = rw (ne-eqb (r .table .threads) 0 (λ e. omega (arith, e, h)), lt-ltb (r .rows) (r .table .threads) h)
 
 pub rows-shut : (r : Reading) → r .table .threads ≤ r .rows → atRows r ≡ false
-rows-shut r h = rw (le-ltb (r .rows) (r .table .threads) h) (never (not (atHead r)))
+rows-shut r h = rw (le-ltb (r .rows) (r .table .threads) h) (and-false (not (atHead r)))
 
 pub events-open : (r : Reading) → atEvents r ≡ true → (r .table .threads ≡ 0 → ⊥) × (r .table .threads ≤ r .rows)
 events-open r e = let p = both-true (not (atHead r)) _ e in (eqb-false _ _ (not-true _ (p .0)), ltb-false _ _ (not-true _ (p .1)))
@@ -96,19 +92,6 @@ given-none : Given noSchedule
 unfolding opening tableAnswer headAnswer
 given-none = given-opening usualPeriod (fresh .table)
 
-peel : (b : Bool) (k : ℕ) (a : Answer) → cond b (Refused k) a ≡ Done → (b ≡ false) × (a ≡ Done)
-peel true k a e = let z : _≡_ {A = ℕ} 0 1 = cc in absurd (omega arith)
-peel false k a e = (refl, e)
-
--- a head that is not refused has a thread
-head-some : (q n : ℕ) → headAnswer q n ≡ Done → n ≡ 0 → ⊥
-unfolding headAnswer
-head-some q n e =
-    let p1 = peel (eqb q 0) 1 _ e in
-    let p2 = peel (ltb maxQ q) 1 _ (p1 .1) in
-    let p3 = peel (eqb n 0) 2 _ (p2 .1) in
-    eqb-false n 0 (p3 .0)
-
 head-good : (q n : ℕ) → headAnswer q n ≡ Done → GoodReading (headed q n)
 unfolding rowsAnswer
 head-good q n e = record {
@@ -117,7 +100,7 @@ head-good q n e = record {
   head = λ _. e;
   rows = refl;
   given = given-none;
-  bare = λ z. absurd (head-some q n e z);
+  bare = λ z. absurd (head-admitted q n e .some z);
   unbegun = λ _. refl;
 }
 

@@ -1,24 +1,22 @@
 -- The listing of an input goes on from any tick: the ticks before a record may be listed a part at a time.
-use mathlib.Core.Path.{_≡_, refl, sym, ap, _∙_, subst}
+use mathlib.Core.Path.{_≡_, refl, sym, ap, _∙_}
 use mathlib.Core.Bool.{Bool, true, false, cond}
-use mathlib.Core.List.{List, [], _∷_, _++_, append-nil, append-assoc}
+use mathlib.Core.List.{List, _++_, append-nil, append-assoc}
 use Prim.Native.Nat.{ℕ, zero, suc, _+_, _-_, _≤_, _<_}
 use native.Mathlib.Nat.{suc-add, zero-add}
 use native.Mathlib.Omega.{arith}
-use borrow.Author.Tests.{lt-ltb, le-ltb, ltb-true, ltb-false}
+use borrow.Author.Tests.{le-ltb, ltb-false}
 use lib.Dec.{ltb}
-use lib.ListN.{length, drop, length-drop}
 use Rattle.rules.specs.Limits.{clockEnd}
 use Rattle.rules.specs.Threads.{State}
-use Rattle.rules.specs.Table.{Answer, Done, Refused, Answered, first}
-use Rattle.rules.specs.Table as table
+use Rattle.rules.specs.Table.{Answer, Done, Refused, first}
 use Rattle.rules.specs.Step.{stepped}
 use Rattle.rules.specs.Run.{stateAfter}
 use Rattle.rules.specs.Records.{Moment, Record, Head, Row, Arrival, Completion, RunTo, Drop}
-use Rattle.rules.specs.Reading.{Reading, Read, atHead, atRows, atEvents, inPlace, momentAnswer, threadAnswer, beforeTicks, ticksTo, ticksBefore, dueAs, ticksDue, atItsMoment, eventOf, eventRead, readAs, withState, placedRead, recordRead}
+use Rattle.rules.specs.Reading.{Reading, atHead, atRows, atEvents, inPlace, momentAnswer, threadAnswer, beforeTicks, ticksTo, ticksBefore, dueAs, ticksDue, atItsMoment, eventOf, eventRead, readAs, withState, placedRead, recordRead}
 use Rattle.rules.specs.Listing.{Rest, tickLine, tickLines, onward}
 use Rattle.promises.specs.Unchanged.{step-same}
-use Rattle.promises.specs.Begin.{both-done}
+use Rattle.promises.specs.Begin.{peel, both-done}
 use Rattle.promises.specs.Taken.{steps-clock}
 
 -- the first tick of a run is taken first
@@ -37,19 +35,10 @@ lines-first (suc k) s =
 
 -- ---- a record with a moment
 moment-done : (s : State) (m : Moment) → momentAnswer s m ≡ Done → (m .0 ≤ clockEnd) × (s .clock .0 ≤ m .0)
-moment-done s m h = go (ltb clockEnd (m .0)) (ltb (m .0) (s .clock .0)) refl refl h
-  where
-    no : (n : ℕ) → Refused n ≡ Done → ⊥
-    no n e = subst (λ (a : Answer). refusal a) e tt
-      where
-        refusal : Answer → Type 0
-        refusal Done = ⊥
-        refusal (Refused n) = Unit
-
-    go : (a b : Bool) → ltb clockEnd (m .0) ≡ a → ltb (m .0) (s .clock .0) ≡ b → cond a (Refused 13) (cond b (Refused 12) Done) ≡ Done → (m .0 ≤ clockEnd) × (s .clock .0 ≤ m .0)
-    go true b p q h = absurd (no 13 h)
-    go false true p q h = absurd (no 12 h)
-    go false false p q h = (ltb-false _ _ p, ltb-false _ _ q)
+moment-done s m h =
+    let p = peel (ltb clockEnd (m .0)) 13 _ h in
+    let q = peel (ltb (m .0) (s .clock .0)) 12 Done (p .1) in
+    (ltb-false _ _ (p .0), ltb-false _ _ (q .0))
 
 moment-is : (s : State) (m : Moment) → m .0 ≤ clockEnd → s .clock .0 ≤ m .0 → momentAnswer s m ≡ Done
 moment-is s m h k = rw (le-ltb _ _ h, le-ltb _ _ k)

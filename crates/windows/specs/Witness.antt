@@ -3,7 +3,6 @@
 use mathlib.Core.Path.{_≡_, refl, sym}
 use mathlib.Core.Bool.{true, false}
 use mathlib.Core.List.{List, [], _∷_}
-use Prim.Native.Nat.{ℕ}
 use lib.Dec.{lit≤}
 use Rattle.lists.specs.Sum.{sumBy}
 use Rattle.lists.specs.MapTo.{mapTo}
@@ -24,7 +23,7 @@ use Rattle.rules.specs.Reading.{beforeTicks, ticksDue, eventRead, recordRead, r
 use Rattle.rules.specs.Listing.{bytes, digits, line, heading, tickLine, ending}
 use Rattle.promises.specs.Cases.{true-false}
 use Rattle.windows.specs.Advance.{begun, move, advanced, advance}
-use Rattle.windows.specs.Feeding.{Feed, written, leaves, comes-to, Honest}
+use Rattle.windows.specs.Feeding.{Feed, comes-to, Honest}
 use Rattle.marked.specs.Worked.{trace}
 
 -- 30 bytes of what is left, and then all of it
