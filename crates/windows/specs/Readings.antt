@@ -1,6 +1,6 @@
 -- What holds of every reading that records gave.
 use mathlib.Core.Path.{_≡_, refl, sym, ap, _∙_, subst}
-use mathlib.Core.Bool.{Bool, true, false, not, cond, _&&_}
+use mathlib.Core.Bool.{Bool, true, false, not, cond}
 use mathlib.Core.List.{List, [], _∷_, _++_}
 use Prim.Native.Nat.{ℕ, zero, suc, _+_, _-_, _≤_, _<_}
 use native.Mathlib.Omega.{arith}
@@ -19,7 +19,7 @@ use Rattle.rules.specs.Records as records
 use Rattle.rules.specs.Records.{Record, Head, Row, Arrival, Completion, RunTo, Drop, Decoded, Known, moment, decoded}
 use Rattle.rules.specs.Reading.{Reading, Read, fresh, atHead, atRows, atEvents, inPlace, readAs, headed, rowed, withRow, withState, beforeTicks, ticksBefore, atItsMoment, eventOf, eventRead, placedRead, recordRead, decodedRead, read}
 use Rattle.rules.specs.Input.{readings, GivenReading}
-use Rattle.promises.specs.Cases.{by-test, true-false, and-false}
+use Rattle.promises.specs.Cases.{by-test, both-true, and-false}
 use Rattle.promises.specs.Admission.{rows-more}
 use Rattle.promises.specs.Begin.{head-admitted}
 use Rattle.promises.specs.Always.{given-opening, given-by, given-steps}
@@ -53,10 +53,6 @@ pub reading-ticks : {r : Reading} → GivenReading r → (n : ℕ) → atEvents 
 reading-ticks {r} g n e h = subst GivenReading (ticks-read r n e h) (reading-by g (RunTo (moment (r .state .clock .0 + n))))
 
 -- ---- the places of a reading
-both-true : (a b : Bool) → (a && b) ≡ true → (a ≡ true) × (b ≡ true)
-both-true true b e = (refl, e)
-both-true false b e = absurd (true-false (sym e))
-
 pub rows-open : (r : Reading) → atRows r ≡ true → (r .table .threads ≡ 0 → ⊥) × (r .rows < r .table .threads)
 rows-open r e = let p = both-true (not (atHead r)) _ e in (eqb-false _ _ (not-true _ (p .0)), ltb-true _ _ (p .1))
 
