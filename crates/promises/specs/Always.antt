@@ -53,7 +53,7 @@ grant-good {z} y h c ch = let s = y .sound in record {
   left = λ c. absurd (true-false (sym c));
 }
 
-pub step-good : {s : State} → Good s → Good (stepped s .state)
+step-good : {s : State} → Good s → Good (stepped s .state)
 step-good {s} g =
     let y = ready-ready g in
     by-step s (λ (r : Stepped). Good (r .state)) (λ _. g)
@@ -145,7 +145,7 @@ pub given-opening : (usual : ℕ) (t : Table) → Given (opening usual t .state)
 unfolding after
 given-opening usual t = record { usual = usual; table = t; calls = []; came = refl }
 
-pub after-more : (cs : List Call) (s : State) (c : Call) → after s (cs ++ (c ∷ [])) ≡ apply (after s cs) c
+after-more : (cs : List Call) (s : State) (c : Call) → after s (cs ++ (c ∷ [])) ≡ apply (after s cs) c
 unfolding after
 after-more [] s c = refl
 after-more (d ∷ cs) s c = after-more cs (apply s d) c

@@ -38,7 +38,7 @@ pub record Admitted (usual q before : ℕ) (x : Row) : Type 0 where
   pub long : q ≤ x .share * meant usual (x .period)
   pub sum-max : before + x .share ≤ q
 
-pub row-admitted : (usual q before : ℕ) (x : Row) → rowAnswer usual q before x ≡ Done → Admitted usual q before x
+row-admitted : (usual q before : ℕ) (x : Row) → rowAnswer usual q before x ≡ Done → Admitted usual q before x
 unfolding rowAnswer
 row-admitted usual q before x e =
     let p3 = peel (ltb maxApp (x .app)) 3 _ e in
@@ -88,7 +88,7 @@ module _ (usual q : ℕ) (rows : List Row) where
   shares-within (suc n) e = rows-admitted (suc n) e n (omega arith) .sum-max
 
   -- ---- the threads that it begins with
-  pub opened-length : (n : ℕ) → length (openedTo usual rows n) ≡ maxThreads
+  opened-length : (n : ℕ) → length (openedTo usual rows n) ≡ maxThreads
   unfolding openedTo
   opened-length zero = length-replicate maxThreads blank
   opened-length (suc n) = length-set (openedTo usual rows n) n _ ∙ opened-length n

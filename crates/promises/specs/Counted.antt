@@ -35,10 +35,10 @@ use Rattle.promises.specs.Ledger.{ticks-books, call-books}
 
 -- ---- of an account alone
 -- the moments of its completed jobs, and the ticks in all its jobs
-abbrev pub momentsIn : Account → List ℕ
+abbrev momentsIn : Account → List ℕ
 momentsIn g = map (λ (f : Finished). f .completion) (g .finished)
 
-abbrev pub ticksIn : Account → ℕ
+abbrev ticksIn : Account → ℕ
 ticksIn g = sumBy (λ (f : Finished). f .job .length) (g .finished) + sumBy (λ (j : Job). j .length) (g .waiting)
 
 -- only the job at the head has had ticks
@@ -54,7 +54,7 @@ Fed i g (dropped-to-head k t) = Unit {0}
 Fed i g (granted k t e) = k ≡ i → 0 < length (g .waiting)
 Fed i g (idle-tick t) = Unit {0}
 
-abbrev pub AllFed : ℕ → ℕ → ℕ → Account → List Happening → Type 0
+abbrev AllFed : ℕ → ℕ → ℕ → Account → List Happening → Type 0
 AllFed q u i g [] = Unit {0}
 AllFed q u i g (h ∷ hs) = Fed i g h × AllFed q u i (accountOf q u i g h) hs
 

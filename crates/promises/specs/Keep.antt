@@ -10,7 +10,7 @@ use lib.Dec.{T, eqb}
 use lib.IntN.{pos}
 use lib.ListN.{length, take, set, length-set}
 use Rattle.lists.specs.Sum.{sumBy, sum-map, sum-store}
-use Rattle.lists.specs.Take.{sum-put, sum-upd-le, sum-upd, all-upd, sum-map-le, at-upd}
+use Rattle.lists.specs.Take.{sum-put, sum-upd-le, all-upd, sum-map-le, at-upd}
 use Rattle.lists.specs.MapTo.{mapTo, map-length}
 use Rattle.lists.specs.All.{All, all-at, all-set, all-map}
 use Rattle.rules.specs.Limits.{nobody}
@@ -51,7 +51,7 @@ module _ {m q t : ℕ} {xs : List Thread} (r : Rows m q t xs) where
       same = sum-store share m xs i v blank e
 
   -- the same of all threads at once
-  pub map-rows : (f : Thread → Thread) → ((x : Thread) → f x .share ≡ x .share) → ((x : Thread) → Fine q t x → Fine q t (f x)) → ((x : Thread) → deficit t (f x) ≤ deficit t x) → ((k n : ℕ) (x : Thread) → claim t k n (f x) ≤ claim t k n x) → Rows m q t (mapTo m f xs)
+  map-rows : (f : Thread → Thread) → ((x : Thread) → f x .share ≡ x .share) → ((x : Thread) → Fine q t x → Fine q t (f x)) → ((x : Thread) → deficit t (f x) ≤ deficit t x) → ((k n : ℕ) (x : Thread) → claim t k n (f x) ≤ claim t k n x) → Rows m q t (mapTo m f xs)
   map-rows f e g d c = record {
     long = map-length m f xs ∙ r .long;
     few = r .few;
@@ -90,7 +90,7 @@ module _ (room : ℕ) (x : Thread) where
       by-fitting (λ (y : Thread). claim t k n y ≤ claim t k n x) room x (omega arith)
       (λ c _. let s = plus-parts (x .e .0) (x .share * x .period) in claim-postponed t k n x _ (true-T c) (omega arith))
 
-pub fit-share : (room : ℕ) (x : Thread) → fit room x .share ≡ x .share
+fit-share : (room : ℕ) (x : Thread) → fit room x .share ≡ x .share
 fit-share room x = fit-same room x (λ y. y .share) refl
 
 pub fit-app : (room : ℕ) (x : Thread) → fit room x .app ≡ x .app
@@ -114,7 +114,7 @@ module _ {m q t : ℕ} {xs : List Thread} (g : ℕ → ℕ) (r : Rows m q t xs) 
 
 -- ---- a number that is taken from the W of one thread, or of nobody
 module _ (r : ℕ) (xs : List Thread) (i : ℕ) where
-  pub lose-keeps : (P : List Thread → Type 0) → P xs → ((i ≡ nobody → ⊥) → P (set xs i (loses (pos r) (at xs i)))) → P (loseAt (pos r) xs i)
+  lose-keeps : (P : List Thread → Type 0) → P xs → ((i ≡ nobody → ⊥) → P (set xs i (loses (pos r) (at xs i)))) → P (loseAt (pos r) xs i)
   unfolding loseAt
   lose-keeps P a b = by-test P (eqb i nobody) (λ _. a) (λ e. b (eqb-false i nobody e))
 
@@ -131,7 +131,7 @@ module _ (r : ℕ) (xs : List Thread) (i : ℕ) where
 
     -- a sum that does not look at W
     pub lose-sum : (f : Thread → ℕ) → ((x : Thread) → f (loses (pos r) x) ≡ f x) → sumBy f (take m (loseAt (pos r) xs i)) ≡ sumBy f (take m xs)
-    lose-sum f h = lose-keeps (λ ys. sumBy f (take m ys) ≡ sumBy f (take m xs)) refl (λ _. sum-upd f (loses (pos r)) h m xs i blank)
+    lose-sum f h = lose-keeps (λ ys. sumBy f (take m ys) ≡ sumBy f (take m xs)) refl (λ _. sum-store f m xs i (loses (pos r) (at xs i)) blank (h (at xs i)))
 
     pub lose-all : (P : Thread → Type 0) → ((x : Thread) → P x → P (loses (pos r) x)) → All P (take m xs) → All P (take m (loseAt (pos r) xs i))
     lose-all P f a = lose-keeps (λ ys. All P (take m ys)) a (λ _. all-upd (loses (pos r)) f m xs i blank a)

@@ -118,7 +118,7 @@ module _ {q u p i : ℕ} {g : Account} {s : State} (good : Good s) (b : Books q 
       }
 
 -- the account goes on from where it was
-pub account-append : (q u i : ℕ) (g : Account) (hs ks : List Happening) → account q u i g (hs ++ ks) ≡ account q u i (account q u i g hs) ks
+account-append : (q u i : ℕ) (g : Account) (hs ks : List Happening) → account q u i g (hs ++ ks) ≡ account q u i (account q u i g hs) ks
 unfolding account
 account-append q u i g [] ks = refl
 account-append q u i g (h ∷ hs) ks = account-append q u i (accountOf q u i g h) hs ks

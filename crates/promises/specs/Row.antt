@@ -32,7 +32,7 @@ apart NonContending n c = c
 
 module _ (q t : ℕ) (x : Thread) (f : Fine q t x) where
   -- the same row with another phase, W, E and number of jobs
-  pub fine-as : (p : Phase) (w e : ℤ) (n : ℕ) → n ≤ maxJobs → Shape p n w e → w ≼ e → (T (isContending p) → x .share * t ≤ up e) → dn e ≡ 0 → up w ≤ q * t → up e ≤ q * t + q + x .share * x .period → Fine q t (withJobs (with x p w e) n)
+  fine-as : (p : Phase) (w e : ℤ) (n : ℕ) → n ≤ maxJobs → Shape p n w e → w ≼ e → (T (isContending p) → x .share * t ≤ up e) → dn e ≡ 0 → up w ≤ q * t → up e ≤ q * t + q + x .share * x .period → Fine q t (withJobs (with x p w e) n)
   fine-as p w e n j s o d h k l = record {
     app-max = f .app-max;
     share-min = f .share-min;
@@ -49,7 +49,7 @@ module _ (q t : ℕ) (x : Thread) (f : Fine q t x) where
   }
 
   -- W and E stay
-  pub fine-phase : (p : Phase) (n : ℕ) → n ≤ maxJobs → Shape p n (x .w .0) (x .e .0) → (T (isContending p) → T (contends x)) → Fine q t (withJobs (with x p (x .w .0) (x .e .0)) n)
+  fine-phase : (p : Phase) (n : ℕ) → n ≤ maxJobs → Shape p n (x .w .0) (x .e .0) → (T (isContending p) → T (contends x)) → Fine q t (withJobs (with x p (x .w .0) (x .e .0)) n)
   fine-phase p n j s c = fine-as p (x .w .0) (x .e .0) n j s (f .ordered) (λ k. f .due (c k)) (f .e-whole) (f .w-up) (f .e-up)
 
   -- ---- by phase
@@ -59,7 +59,7 @@ module _ (q t : ℕ) (x : Thread) (f : Fine q t x) where
   jobless-as NonContending s n = s
 
   -- a thread that does not contend has no job
-  pub jobless : (T (contends x) → ⊥) → x .jobs ≡ 0
+  jobless : (T (contends x) → ⊥) → x .jobs ≡ 0
   jobless = jobless-as (x .phase) (f .shape)
 
   has-job-as : (p : Phase) → Shape p (x .jobs) (x .w .0) (x .e .0) → T (isContending p) → 1 ≤ x .jobs

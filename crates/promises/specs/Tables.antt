@@ -67,7 +67,7 @@ abbrev pub Table16 : (ℕ → ℕ) → List ℕ → Type 0
 Table16 g f = (a : ℕ) → a < 16 → getD f a 0 ≡ g a
 
 -- one row more: its own application's number changes, the others' do not
-pub table-more : (g g' : ℕ → ℕ) (f : List ℕ) (app v : ℕ) → length f ≡ 16 → app < 16 → Table16 g f → v ≡ g' app → ((a : ℕ) → (a ≡ app → ⊥) → g' a ≡ g a) → Table16 g' (set f app v)
+table-more : (g g' : ℕ → ℕ) (f : List ℕ) (app v : ℕ) → length f ≡ 16 → app < 16 → Table16 g f → v ≡ g' app → ((a : ℕ) → (a ≡ app → ⊥) → g' a ≡ g a) → Table16 g' (set f app v)
 table-more g g' f app v l h inv e same a k = go (ℕ-discrete a app)
   where
     go : Dec (a ≡ app) → getD (set f app v) a 0 ≡ g' a
@@ -80,14 +80,14 @@ module _ (xs : List Thread) (i : ℕ) where
   and-other : (a : ℕ) → (a ≡ at xs i .app → ⊥) → (b : Bool) → (b && eqb (at xs i .app) a) ≡ false
   and-other a n b = ap (λ c. b && c) (ne-eqb (at xs i .app) a (λ e. n (sym e))) ∙ and-false b
 
-  pub free-other : i < length xs → (a : ℕ) → (a ≡ at xs i .app → ⊥) → free a (i + 1) xs ≡ free a i xs
+  free-other : i < length xs → (a : ℕ) → (a ≡ at xs i .app → ⊥) → free a (i + 1) xs ≡ free a i xs
   unfolding freeShare
   free-other l a n = sum-more (freeShare a) xs i blank l ∙ zero-more (and-other a n (isInactive (at xs i .phase)))
     where
       zero-more : (isInactive (at xs i .phase) && eqb (at xs i .app) a) ≡ false → free a i xs + cond (isInactive (at xs i .phase) && eqb (at xs i .app) a) (at xs i .share) 0 ≡ free a i xs
       zero-more e = rw e (omega arith)
 
-  pub first-other : (a : ℕ) → (a ≡ at xs i .app → ⊥) → earliest (activeIn a) (i + 1) xs ≡ earliest (activeIn a) i xs
+  first-other : (a : ℕ) → (a ≡ at xs i .app → ⊥) → earliest (activeIn a) (i + 1) xs ≡ earliest (activeIn a) i xs
   unfolding earliest
   first-other a n =
       ap (λ k. earliest (activeIn a) k xs) (add-one i)

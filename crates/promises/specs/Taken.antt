@@ -117,7 +117,7 @@ module _ {s l z : State} {f : List ℕ} (c : Left s l f) (i : ℕ) (all : i ≡ 
   best-all r t a h = t a h ∙ same (activeIn a)
 
 module _ {s l z : State} {b : ℕ} (c : Chose s l z b) where
-  pub z-ready : Ready z
+  z-ready : Ready z
   z-ready = rw (c .fit, c .left) (ready-ready (c .good))
 
   pub z-steady : Steady z

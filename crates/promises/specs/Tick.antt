@@ -9,8 +9,8 @@ use lib.Dec.{T, eqb, nleb→lt}
 use lib.IntN.{ℤ, pos}
 use lib.ListN.{length, take, length-set}
 use Rattle.integers.specs.Parts.{up, dn, minus-parts}
-use Rattle.lists.specs.Sum.{sumBy, sum-map, sum-scale, sum-times}
-use Rattle.lists.specs.Take.{sum-put, sum-upd, sum-gap, all-upd, at-upd, sum-map-le, sum-le-add, sum-add-le}
+use Rattle.lists.specs.Sum.{sumBy, sum-map, sum-scale, sum-times, sum-store}
+use Rattle.lists.specs.Take.{sum-put, sum-gap, all-upd, at-upd, sum-map-le, sum-le-add, sum-add-le}
 use Rattle.lists.specs.MapTo.{mapTo, map-length}
 use Rattle.lists.specs.All.{All, none, more, all-at, all-set, all-map, all-of}
 use Rattle.rules.specs.Limits.{apps}
@@ -197,7 +197,7 @@ module _ (z : State) (c : ℕ) (ch : Chosen z c) (rows : Rows (z .count) (z .q) 
 
   -- ---- sums
   same-ys : (f : Thread → ℕ) → ((n : ℕ) (y : Thread) → f (loses (pos n) y) ≡ f y) → ((n : ℕ) (y : Thread) → f (gains n y) ≡ f y) → sumBy f (take m zs) ≡ sumBy f (take m xs)
-  same-ys f h g = sum-upd f (gains (q - r)) (g (q - r)) m ys c blank ∙ benefits-sum (x .app) z f h m apps xs
+  same-ys f h g = sum-store f m ys c (gains (q - r) (at ys c)) blank (g (q - r) (at ys c)) ∙ benefits-sum (x .app) z f h m apps xs
 
   same-shares : sumBy share (take m zs) ≡ sumBy share (take m xs)
   same-shares = same-ys share (λ n y. refl) (λ n y. refl)
@@ -224,7 +224,7 @@ module _ (z : State) (c : ℕ) (ch : Chosen z c) (rows : Rows (z .count) (z .q) 
   late-zs : (k n : ℕ) → T (not (early k n (x .share) (x .e .0))) → All (Late k n) (take m zs)
   late-zs k n b = all-upd (gains (q - r)) (λ y a. a) m ys c blank (benefits-all (x .app) z (Late k n) (λ n' y a. a) m apps xs (late-all rows (ch .leads) k n b))
 
-  pub charge-claims : Claims m (t + 1) zs
+  charge-claims : Claims m (t + 1) zs
   charge-claims k n k1 h =
       test (λ _. sumBy (claim (t + 1) k n) (take m zs) + k * (t + 1) * sumBy share (take m zs) ≤ n * sumBy share (take m zs)) (early k n (x .share) (x .e .0))
       (λ b. rw same-shares (early-claims k n h b (rows .claims k n k1 (omega arith))))

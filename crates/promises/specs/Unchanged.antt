@@ -27,7 +27,7 @@ use Rattle.promises.specs.Cases.{by-test}
 use Rattle.promises.specs.Branches.{by-leaving, by-fitting, by-completion, by-arrival, by-drop, by-step, by-run}
 
 -- y has the row of x: application, share and period
-abbrev pub SameRow : Thread → Thread → Type 0
+abbrev SameRow : Thread → Thread → Type 0
 SameRow x y = (y .app ≡ x .app) × (y .share ≡ x .share) × (y .period ≡ x .period)
 
 -- z has the table of s
@@ -39,10 +39,10 @@ pub record SameTable (s z : State) : Type 0 where
 same-row : (x : Thread) → SameRow x x
 same-row x = (refl, refl, refl)
 
-pub same-table : (s : State) → SameTable s s
+same-table : (s : State) → SameTable s s
 same-table s = record { count = refl; q = refl; row = λ i. same-row (at (s .threads) i) }
 
-pub same-then : {s z y : State} → SameTable s z → SameTable z y → SameTable s y
+same-then : {s z y : State} → SameTable s z → SameTable z y → SameTable s y
 same-then a b = record {
   count = b .count ∙ a .count;
   q = b .q ∙ a .q;

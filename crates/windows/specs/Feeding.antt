@@ -29,13 +29,13 @@ rest p s = cond (p .done) [] (listFrom (length s) (p .reading) (p .place) s)
 abbrev pub Bytes : List ℕ → Type 0
 Bytes s = (i : ℕ) → getD s i 0 < 256
 
-pub take-bytes : (m : ℕ) (s : List ℕ) → Bytes s → Bytes (take m s)
+take-bytes : (m : ℕ) (s : List ℕ) → Bytes s → Bytes (take m s)
 take-bytes zero s b i = omega arith
 take-bytes (suc m) [] b i = omega arith
 take-bytes (suc m) (x ∷ s) b zero = b 0
 take-bytes (suc m) (x ∷ s) b (suc i) = take-bytes m s (λ j. b (suc j)) i
 
-pub drop-bytes : (m : ℕ) (s : List ℕ) → Bytes s → Bytes (drop m s)
+drop-bytes : (m : ℕ) (s : List ℕ) → Bytes s → Bytes (drop m s)
 drop-bytes m s b i = subst (λ (x : ℕ). x < 256) (sym (getD-drop m s i 0)) (b (m + i))
 
 -- the move keeps to the listing of the input s, of which w is a window
@@ -136,7 +136,7 @@ module _ (last : Bool) (p : Progress) (w tail : List ℕ) (end : last ≡ true �
           rw (e, ← grows-body w tail (2 + le16 w 0) (omega arith) h)
           (whole-kept p o w (w ++ tail) (le16 w 2) (2 + le16 w 0) (omega arith) h (omega (arith, h, length-append w tail)) (grows-full w tail least h))
 
-  pub move-kept : (room : ℕ) → Kept p w (w ++ tail) (move last room p w)
+  move-kept : (room : ℕ) → Kept p w (w ++ tail) (move last room p w)
   unfolding move
   move-kept room =
       by-test (λ (m : Move). Kept p w (w ++ tail) m) (p .done) (λ _. tt)
@@ -145,7 +145,7 @@ module _ (last : Bool) (p : Progress) (w tail : List ℕ) (end : last ≡ true �
       (λ _. frame-kept o)))
 
 -- ---- a call
-pub advanced-kept : (k : ℕ) (last : Bool) (room : ℕ) (p : Progress) (w tail : List ℕ) → (last ≡ true → tail ≡ []) → Bytes w → (advanced k last room p w .taken ≤ length w) × (rest p (w ++ tail) ≡ advanced k last room p w .text ++ rest (advanced k last room p w .progress) (drop (advanced k last room p w .taken) (w ++ tail)))
+advanced-kept : (k : ℕ) (last : Bool) (room : ℕ) (p : Progress) (w tail : List ℕ) → (last ≡ true → tail ≡ []) → Bytes w → (advanced k last room p w .taken ≤ length w) × (rest p (w ++ tail) ≡ advanced k last room p w .text ++ rest (advanced k last room p w .progress) (drop (advanced k last room p w .taken) (w ++ tail)))
 unfolding advanced
 advanced-kept zero last room p w tail end bytes = (omega arith, refl)
 advanced-kept (suc k) last room p w tail end bytes = by (move last room p w) (move-kept last p w tail end bytes room) (λ r q v e. advanced-kept k last r q v tail end e)
@@ -199,7 +199,7 @@ Honest p s [] = Unit
 Honest p s (f ∷ fs) = (f .last ≡ true → length s ≤ f .size) × Honest (turn p s f .progress) (drop (turn p s f .taken) s) fs
 
 -- what was written is how the rest of the listing begins, and what is still to be written is how it goes on
-pub feeding : (fs : List Feed) (p : Progress) (s : List ℕ) → Bytes s → Honest p s fs → rest p s ≡ written p s fs ++ rest (comes-to p s fs) (leaves p s fs)
+feeding : (fs : List Feed) (p : Progress) (s : List ℕ) → Bytes s → Honest p s fs → rest p s ≡ written p s fs ++ rest (comes-to p s fs) (leaves p s fs)
 unfolding written leaves comes-to Honest advance
 feeding [] p s bytes h = refl
 feeding (f ∷ fs) p s bytes h =

@@ -22,7 +22,7 @@ use Rattle.windows.specs.Ticks.{before-end}
 use Rattle.windows.specs.Advance.{Progress, longest, widest, farthest, finished, ticked, Move, stays, moves, stops, readMove, recordMove, decodedMove, frameMove, move, still, joined, moved, advanced, advance}
 
 -- ---- a line is never empty
-pub line-some : (ws : List (List ℕ)) → 1 ≤ length (line ws)
+line-some : (ws : List (List ℕ)) → 1 ≤ length (line ws)
 unfolding line bytes
 line-some [] = omega arith
 line-some (w ∷ []) = omega (arith, length-append w (bytes "\n"))
@@ -91,7 +91,7 @@ move-less last room p w =
     (λ _. frame-less room (ltb-false _ _ r) p w last)))
 
 -- ---- more moves than there is room and window change nothing
-pub advanced-any : (k m : ℕ) (last : Bool) (room : ℕ) (p : Progress) (w : List ℕ) → room + length w < k → room + length w < m → advanced k last room p w ≡ advanced m last room p w
+advanced-any : (k m : ℕ) (last : Bool) (room : ℕ) (p : Progress) (w : List ℕ) → room + length w < k → room + length w < m → advanced k last room p w ≡ advanced m last room p w
 unfolding advanced
 advanced-any zero m last room p w h l = absurd (omega arith)
 advanced-any (suc k) zero last room p w h l = absurd (omega arith)

@@ -34,7 +34,7 @@ touched (RunTo m) t n = nobody
 touched (Drop m i) t n = atOnce m i t n
 
 -- more jobs than a thread may have
-abbrev pub tooMany : ℕ
+abbrev tooMany : ℕ
 tooMany = 65536
 
 abbrev pub oneMore : Thread → Bool → ℕ

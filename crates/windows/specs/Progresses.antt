@@ -24,7 +24,7 @@ Brings stays = Unit
 Brings (moves n t q) = GivenReading (q .reading)
 
 -- a tick that is due leaves a given reading
-pub ticked-given : (p : Progress) → GivenReading (p .reading) → (e : Record) (d : ℕ) → ticksDue (p .reading) e ≡ suc d → GivenReading (ticked p .reading)
+ticked-given : (p : Progress) → GivenReading (p .reading) → (e : Record) (d : ℕ) → ticksDue (p .reading) e ≡ suc d → GivenReading (ticked p .reading)
 unfolding stateAfter
 ticked-given p g e d due = reading-ticks g 1 (due-events (p .reading) e d due) (omega (arith, before-end (p .reading) e d due))
 

@@ -53,7 +53,7 @@ pub reading-ticks : {r : Reading} → GivenReading r → (n : ℕ) → atEvents 
 reading-ticks {r} g n e h = subst GivenReading (ticks-read r n e h) (reading-by g (RunTo (moment (r .state .clock .0 + n))))
 
 -- ---- the places of a reading
-pub rows-open : (r : Reading) → atRows r ≡ true → (r .table .threads ≡ 0 → ⊥) × (r .rows < r .table .threads)
+rows-open : (r : Reading) → atRows r ≡ true → (r .table .threads ≡ 0 → ⊥) × (r .rows < r .table .threads)
 rows-open r e = let p = both-true (not (atHead r)) _ e in (eqb-false _ _ (not-true _ (p .0)), ltb-true _ _ (p .1))
 
 -- a row is to come exactly while fewer have come than the head says
@@ -63,7 +63,7 @@ rows-come r h = rw (ne-eqb (r .table .threads) 0 (λ e. omega (arith, e, h)), lt
 pub rows-shut : (r : Reading) → r .table .threads ≤ r .rows → atRows r ≡ false
 rows-shut r h = rw (le-ltb (r .rows) (r .table .threads) h) (and-false (not (atHead r)))
 
-pub events-open : (r : Reading) → atEvents r ≡ true → (r .table .threads ≡ 0 → ⊥) × (r .table .threads ≤ r .rows)
+events-open : (r : Reading) → atEvents r ≡ true → (r .table .threads ≡ 0 → ⊥) × (r .table .threads ≤ r .rows)
 events-open r e = let p = both-true (not (atHead r)) _ e in (eqb-false _ _ (not-true _ (p .0)), ltb-false _ _ (not-true _ (p .1)))
 
 -- ---- what holds of a given reading
@@ -103,21 +103,21 @@ head-good q n e = record {
 -- ---- a row
 -- a row at k leaves the sum of the shares before it, and what the rows before it answer
 module _ (rows : List table.Row) (k : ℕ) (x : table.Row) where
-  pub row-other : (i : ℕ) → (i ≡ k → ⊥) → rowAt (set rows k x) i ≡ rowAt rows i
+  row-other : (i : ℕ) → (i ≡ k → ⊥) → rowAt (set rows k x) i ≡ rowAt rows i
   row-other i f = getD-set-other rows k i x noRow f
 
-  pub shares-kept : (i : ℕ) → i ≤ k → sharesTo (set rows k x) i ≡ sharesTo rows i
+  shares-kept : (i : ℕ) → i ≤ k → sharesTo (set rows k x) i ≡ sharesTo rows i
   unfolding sharesTo
   shares-kept zero h = refl
   shares-kept (suc i) h = rw (shares-kept i (omega arith), row-other i (λ e. omega arith))
 
-  pub answers-kept : (usual q i : ℕ) → i ≤ k → rowsAnswer usual q (set rows k x) i ≡ rowsAnswer usual q rows i
+  answers-kept : (usual q i : ℕ) → i ≤ k → rowsAnswer usual q (set rows k x) i ≡ rowsAnswer usual q rows i
   unfolding rowsAnswer
   answers-kept usual q zero h = refl
   answers-kept usual q (suc i) h = rw (answers-kept usual q i (omega arith), shares-kept i (omega arith), row-other i (λ e. omega arith))
 
   -- a row that is not refused after those before it
-  pub row-joins : (usual q : ℕ) → k < length rows → rowsAnswer usual q rows k ≡ Done → rowAnswer usual q (sharesTo rows k) x ≡ Done → rowsAnswer usual q (set rows k x) (k + 1) ≡ Done
+  row-joins : (usual q : ℕ) → k < length rows → rowsAnswer usual q rows k ≡ Done → rowAnswer usual q (sharesTo rows k) x ≡ Done → rowsAnswer usual q (set rows k x) (k + 1) ≡ Done
   row-joins usual q h e d =
       rows-more usual q (set rows k x) k (answers-kept usual q k (omega arith) ∙ e)
       ∙ ap (λ (n : ℕ). rowAnswer usual q n (rowAt (set rows k x) k)) (shares-kept k (omega arith))
@@ -125,7 +125,7 @@ module _ (rows : List table.Row) (k : ℕ) (x : table.Row) where
       ∙ d
 
 -- the table with its last row begins a schedule
-pub table-whole : (t : Table) → headAnswer (t .q) (t .threads) ≡ Done → rowsAnswer usualPeriod (t .q) (t .rows) (t .threads) ≡ Done → tableAnswer usualPeriod t ≡ Done
+table-whole : (t : Table) → headAnswer (t .q) (t .threads) ≡ Done → rowsAnswer usualPeriod (t .q) (t .rows) (t .threads) ≡ Done → tableAnswer usualPeriod t ≡ Done
 unfolding tableAnswer
 table-whole t h e = rw (h, e)
 
@@ -139,7 +139,7 @@ module _ {r : Reading} (g : GoodReading r) where
 
   module _ (place : atRows r ≡ true) (x : table.Row) (d : rowAnswer usualPeriod (r .table .q) (sharesTo (r .table .rows) (r .rows)) x ≡ Done) where
     -- the rows with this one are not refused
-    pub rows-with : rowsAnswer usualPeriod (r .table .q) (set (r .table .rows) (r .rows) x) (r .rows + 1) ≡ Done
+    rows-with : rowsAnswer usualPeriod (r .table .q) (set (r .table .rows) (r .rows) x) (r .rows + 1) ≡ Done
     rows-with =
         let o = rows-open r place in
         row-joins (r .table .rows) (r .rows) x usualPeriod (r .table .q) (omega (arith, g .long, few-threads (o .0), o .1)) (g .rows) d
@@ -168,7 +168,7 @@ module _ {r : Reading} (g : GoodReading r) where
 
   -- ---- an event
   module _ (place : atEvents r ≡ true) where
-    pub with-good : {s : State} → Given s → GoodReading (withState r s)
+    with-good : {s : State} → Given s → GoodReading (withState r s)
     with-good s =
         let o = events-open r place in
         record {
@@ -181,7 +181,7 @@ module _ {r : Reading} (g : GoodReading r) where
           unbegun = λ h. absurd (omega (arith, o .1, h));
         }
 
-pub given-moment : {s : State} → Given s → (e : Record) → Given (atItsMoment s e .state)
+given-moment : {s : State} → Given s → (e : Record) → Given (atItsMoment s e .state)
 given-moment g (Head q n) = g
 given-moment g (Row x) = g
 given-moment g (Arrival m i) = given-by g (calls.arrive i)

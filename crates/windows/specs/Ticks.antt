@@ -20,7 +20,7 @@ use Rattle.promises.specs.Begin.{peel, both-done}
 use Rattle.promises.specs.Taken.{steps-clock}
 
 -- the first tick of a run is taken first
-pub steps-first : (k : ℕ) (s : State) → stateAfter (suc k) s ≡ stateAfter k (stepped s .state)
+steps-first : (k : ℕ) (s : State) → stateAfter (suc k) s ≡ stateAfter k (stepped s .state)
 unfolding stateAfter
 steps-first zero s = refl
 steps-first (suc k) s = ap (λ (z : State). stepped z .state) (steps-first k s)
@@ -90,7 +90,7 @@ timed (Drop m i) r d h = (m, drop-timed m i)
 -- ---- one tick of those that are due
 module _ (r : Reading) (e : Record) (d : ℕ) (due : ticksDue r e ≡ suc d) where
   -- the reading after the tick
-  abbrev pub after-tick : Reading
+  abbrev after-tick : Reading
   after-tick = withState r (stepped (r .state) .state)
 
   t : Timed e (timed e r d due .0)

@@ -36,7 +36,7 @@ part = record { last = false; size = 30; room = 100 }
 abbrev whole : Feed
 whole = record { last = true; size = 112; room = 100 }
 
-abbrev pub feeds : List Feed
+abbrev feeds : List Feed
 feeds = part ∷ part ∷ part ∷ part ∷ part ∷ part ∷ whole ∷ whole ∷ whole ∷ []
 
 -- what feeding it comes to, by computing with all the rules
