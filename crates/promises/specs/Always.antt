@@ -9,7 +9,7 @@ use lib.ListN.{set}
 use Rattle.lists.specs.MapTo.{map-same}
 use Rattle.lists.specs.Take.{all-upd, at-upd}
 use Rattle.rules.specs.Limits.{nobody, maxJobs, clockEnd}
-use Rattle.rules.specs.Threads.{Thread, State, blank, at}
+use Rattle.rules.specs.Threads.{Thread, State, withRows, blank, at}
 use Rattle.rules.specs.Table.{Table, Answered, done, opening}
 use Rattle.rules.specs.Completion.{completion, afterCompletion}
 use Rattle.rules.specs.Leaving.{leave, gone}
@@ -114,7 +114,7 @@ drop-good {s} i g = by-drop s GoodA i (λ _. g) into
     alike : (j : ℕ) → Alike (at (s .threads) j) (at (set (s .threads) i (headOnly (at (s .threads) i))) j)
     alike j = at-upd {P = Alike (at (s .threads) j)} headOnly (head-alike (at (s .threads) j)) (s .threads) i j blank (record { share-same = refl; phase-same = refl; e-same = refl })
 
-    into : i < s .count → GoodA (done (record { threads = set (s .threads) i (headOnly (at (s .threads) i)); count = s .count; had = s .had; q = s .q; clock = s .clock; completed = s .completed; closed = s .closed }))
+    into : i < s .count → GoodA (done (withRows s (set (s .threads) i (headOnly (at (s .threads) i)))))
     into h = record {
       time = g .time;
       q-max = g .q-max;

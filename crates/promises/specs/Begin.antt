@@ -78,7 +78,9 @@ module _ (usual q : ℕ) (rows : List Row) where
   rows-admitted zero e j h = absurd (not-suc-le-zero h)
   rows-admitted (suc n) e j h = go (both-done (rowsAnswer usual q rows n) _ e) (λ f. rows-admitted n f j) (ℕ-discrete j n)
     where
-      go : (rowsAnswer usual q rows n ≡ Done) × (rowAnswer usual q (sharesTo rows n) (rowAt rows n) ≡ Done) → (rowsAnswer usual q rows n ≡ Done → j < n → Admitted usual q (sharesTo rows j) (rowAt rows j)) → Dec (j ≡ n) → Admitted usual q (sharesTo rows j) (rowAt rows j)
+      go : (rowsAnswer usual q rows n ≡ Done) × (rowAnswer usual q (sharesTo rows n) (rowAt rows n) ≡ Done)
+          → (rowsAnswer usual q rows n ≡ Done → j < n → Admitted usual q (sharesTo rows j) (rowAt rows j)) → Dec (j ≡ n)
+          → Admitted usual q (sharesTo rows j) (rowAt rows j)
       go p ih (yes e) = subst (λ (k : ℕ). Admitted usual q (sharesTo rows k) (rowAt rows k)) (sym e) (row-admitted usual q (sharesTo rows n) (rowAt rows n) (p .1))
       go p ih (no f) = ih (p .0) (omega arith)
 
@@ -98,13 +100,15 @@ module _ (usual q : ℕ) (rows : List Row) where
   opened-at zero l j h = absurd (not-suc-le-zero h)
   opened-at (suc n) l j h = go (opened-at n (omega arith) j) (ℕ-discrete j n)
     where
-      go : (j < n → at (openedTo usual rows n) j ≡ opened usual (rowAt rows j)) → Dec (j ≡ n) → at (set (openedTo usual rows n) n (opened usual (rowAt rows n))) j ≡ opened usual (rowAt rows j)
+      go : (j < n → at (openedTo usual rows n) j ≡ opened usual (rowAt rows j)) → Dec (j ≡ n)
+          → at (set (openedTo usual rows n) n (opened usual (rowAt rows n))) j ≡ opened usual (rowAt rows j)
       go ih (yes e) = subst (λ (k : ℕ). at (set (openedTo usual rows n) n (opened usual (rowAt rows n))) k ≡ opened usual (rowAt rows k)) (sym e) (getD-set-same (openedTo usual rows n) n _ blank (omega (arith, opened-length n)))
       go ih (no f) = getD-set-other (openedTo usual rows n) n j _ blank f ∙ ih (omega arith)
 
   module _ (n : ℕ) (few : n ≤ maxThreads) where
     -- a sum over them, row by row
-    opened-sum : (f : Thread → ℕ) (g : ℕ → ℕ) → g 0 ≡ 0 → ((j : ℕ) → j < n → g (suc j) ≡ g j + f (opened usual (rowAt rows j))) → (i : ℕ) → i ≤ n → sumBy f (take i (openedTo usual rows n)) ≡ g i
+    opened-sum : (f : Thread → ℕ) (g : ℕ → ℕ) → g 0 ≡ 0 → ((j : ℕ) → j < n → g (suc j) ≡ g j + f (opened usual (rowAt rows j))) → (i : ℕ) → i ≤ n
+        → sumBy f (take i (openedTo usual rows n)) ≡ g i
     opened-sum f g z s zero l = sum-none f (openedTo usual rows n) ∙ sym z
     opened-sum f g z s (suc i) l =
         subst (λ (k : ℕ). sumBy f (take k (openedTo usual rows n)) ≡ g (suc i)) (add-one i)

@@ -33,7 +33,8 @@ by-fitting P room x stay later = by-test P (contends x) (λ c. by-test P (ltZ (x
 
 -- ---- a call: it is refused, or it is accepted
 module _ (s : State) where
-  pub by-completion : (P : Answered → Type 0) (i : ℕ) → ((n : ℕ) → P (refused n s)) → (i < s .count → s .closed ≡ false → s .completed ≡ false → i ≡ s .had → P (done (afterCompletion s i))) → P (completion s i)
+  pub by-completion : (P : Answered → Type 0) (i : ℕ) → ((n : ℕ) → P (refused n s))
+      → (i < s .count → s .closed ≡ false → s .completed ≡ false → i ≡ s .had → P (done (afterCompletion s i))) → P (completion s i)
   unfolding completion
   by-completion P i kept on =
       by-test P (ltb i (s .count))
@@ -43,14 +44,16 @@ module _ (s : State) where
       (λ _. kept 9)))
       (λ _. kept 8)
 
-  pub by-arrival : (P : Answered → Type 0) (i : ℕ) → ((n : ℕ) → P (refused n s)) → (i < s .count → at (s .threads) i .jobs < maxJobs → P (done (arrived (gone s) i))) → P (arrival s i)
+  pub by-arrival : (P : Answered → Type 0) (i : ℕ) → ((n : ℕ) → P (refused n s))
+      → (i < s .count → at (s .threads) i .jobs < maxJobs → P (done (arrived (gone s) i))) → P (arrival s i)
   unfolding arrival
   by-arrival P i kept on =
       by-test P (ltb i (s .count))
       (λ h. by-test P (ltb (at (s .threads) i .jobs) maxJobs) (λ j. on (ltb-true i (s .count) h) (ltb-true _ _ j)) (λ _. kept 11))
       (λ _. kept 8)
 
-  pub by-drop : (P : Answered → Type 0) (i : ℕ) → ((n : ℕ) → P (refused n s)) → (i < s .count → P (done (withRows s (set (s .threads) i (headOnly (at (s .threads) i)))))) → P (dropped s i)
+  pub by-drop : (P : Answered → Type 0) (i : ℕ) → ((n : ℕ) → P (refused n s))
+      → (i < s .count → P (done (withRows s (set (s .threads) i (headOnly (at (s .threads) i)))))) → P (dropped s i)
   unfolding dropped
   by-drop P i kept on = by-test P (ltb i (s .count)) (λ h. on (ltb-true i (s .count) h)) (λ _. kept 8)
 

@@ -157,6 +157,7 @@ given-late usual t zero h = go (tableAnswer usual t) (given-opening usual t)
     go (Refused n) g = g
 given-late usual t (suc m) h = go (tableAnswer usual t) (λ l. given-idle (given-opening usual t) (opening-rest usual t) (suc m) l h)
   where
-    go : (a : Answer) → (openedAs a (start usual t) .state .clock .0 < suc m → Given (idleTo (suc m) (openedAs a (start usual t) .state))) → Given (withClock (suc m) (openedAs a (start usual t) .state))
+    go : (a : Answer) → (openedAs a (start usual t) .state .clock .0 < suc m → Given (idleTo (suc m) (openedAs a (start usual t) .state)))
+        → Given (withClock (suc m) (openedAs a (start usual t) .state))
     go Done f = f (omega arith)
     go (Refused n) f = f (omega arith)

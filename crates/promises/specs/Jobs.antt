@@ -75,7 +75,8 @@ module _ {q u p : ℕ} {g : Account} (x : Thread) (a : Agrees q u p g x) where
   span = ap₂ _*_ (a .share-same) (a .period-same)
 
   -- share and period stay
-  changed : {g' : Account} {n : ℕ} {ph : Phase} {w e : ℤ} → n ≡ length (g' .waiting) → Stage q u p (g' .previous) w e ph (g' .waiting) → Agrees q u p g' (withJobs (with x ph w e) n)
+  changed : {g' : Account} {n : ℕ} {ph : Phase} {w e : ℤ} → n ≡ length (g' .waiting) → Stage q u p (g' .previous) w e ph (g' .waiting)
+      → Agrees q u p g' (withJobs (with x ph w e) n)
   changed c s = record { share-same = a .share-same; period-same = a .period-same; count = c; stage = s }
 
   pub lose-agrees : (z : ℤ) → dn z ≡ 0 → Agrees q u p g (loses z x)
@@ -89,7 +90,8 @@ module _ {q u p : ℕ} {g : Account} (x : Thread) (a : Agrees q u p g x) where
   pub fit-agrees : (room : ℕ) → room ≤ q → Agrees q u p g (fit room x)
   fit-agrees room h = by-fitting (Agrees q u p g) room x a (λ _ s. changed (a .count) (go (a .stage) s))
     where
-      go : {f : Option ℕ} {w e : ℤ} {ph : Phase} {js : List Job} → Stage q u p f w e ph js → ltZ (e -ℤ w) (pos room) ≡ true → Stage q u p f w (e +ℤ pos (x .share * x .period)) ph js
+      go : {f : Option ℕ} {w e : ℤ} {ph : Phase} {js : List Job} → Stage q u p f w e ph js → ltZ (e -ℤ w) (pos room) ≡ true
+          → Stage q u p f w (e +ℤ pos (x .share * x .period)) ph js
       go resting s = resting
       go {w = w} {e = e} (working j k l) s = working j k (omega (arith, span, add-parts e (pos (x .share * x .period)), sub-parts e w, ltZ-true (e -ℤ w) (pos room) s))
       go (ahead k) s = ahead k
@@ -128,7 +130,8 @@ module _ {q u p : ℕ} {g : Account} (x : Thread) (a : Agrees q u p g x) where
       longer-length [] = refl
       longer-length (j ∷ js) = refl
 
-      go : {f : Option ℕ} {w e : ℤ} {ph : Phase} {js : List Job} → Stage q u p f w e ph js → T (isContending ph) → Stage q u p f (w +ℤ pos r) e ph (longer js) × Close q u p f e (longer js)
+      go : {f : Option ℕ} {w e : ℤ} {ph : Phase} {js : List Job} → Stage q u p f w e ph js → T (isContending ph)
+          → Stage q u p f (w +ℤ pos r) e ph (longer js) × Close q u p f e (longer js)
       go resting c = absurd c
       go {f = f} {w = w} (working j k l) c =
           let i : Job = record { arrival = j .arrival; length = j .length + 1 } in
@@ -146,7 +149,8 @@ module _ {q u p : ℕ} {g : Account} (x : Thread) (a : Agrees q u p g x) where
       here : x .share * t ≡ u * t
       here = ap (λ (v : ℕ). v * t) (a .share-same)
 
-      go : {ph : Phase} {js : List Job} → Stage q u p (g .previous) (x .w .0) (x .e .0) ph js → x .jobs ≡ length js → Agrees q u p (withWaiting g (js ++ (new ∷ []))) (withJobs (arriveAs ph t x) (x .jobs + 1))
+      go : {ph : Phase} {js : List Job} → Stage q u p (g .previous) (x .w .0) (x .e .0) ph js → x .jobs ≡ length js
+          → Agrees q u p (withWaiting g (js ++ (new ∷ []))) (withJobs (arriveAs ph t x) (x .jobs + 1))
       go resting c =
           let b = begins-least u (g .previous) new in
           changed (omega arith) (working new (omega (arith, here)) (omega (arith, here, span, add-parts (pos (x .share * t)) (pos (x .share * x .period)))))
@@ -168,10 +172,12 @@ pub record Completes (q u p : ℕ) (g : Account) (x : Thread) : Type 0 where
   pub on-time : All (OnTime u p) (g .finished)
 
 -- u × t ≤ E < X + u × P
-pub completes : {q u p : ℕ} {g : Account} (t : ℕ) (x : Thread) → Agrees q u p g x → Close q u p (g .previous) (x .e .0) (g .waiting) → 0 < q → u * t ≤ up (x .e .0) → dn (x .e .0) ≡ 0 → All (OnTime u p) (g .finished) → Completes q u p (completeHead q u t g (g .waiting)) x
+pub completes : {q u p : ℕ} {g : Account} (t : ℕ) (x : Thread) → Agrees q u p g x → Close q u p (g .previous) (x .e .0) (g .waiting) → 0 < q
+    → u * t ≤ up (x .e .0) → dn (x .e .0) ≡ 0 → All (OnTime u p) (g .finished) → Completes q u p (completeHead q u t g (g .waiting)) x
 completes {q} {u} {p} {g} t x a c q-min due whole before = go (a .stage) (a .count) c
   where
-    go : {ph : Phase} {js : List Job} → Stage q u p (g .previous) (x .w .0) (x .e .0) ph js → x .jobs ≡ length js → Close q u p (g .previous) (x .e .0) js → Completes q u p (completeHead q u t g js) (with x ph (x .w .0) (x .e .0))
+    go : {ph : Phase} {js : List Job} → Stage q u p (g .previous) (x .w .0) (x .e .0) ph js → x .jobs ≡ length js
+        → Close q u p (g .previous) (x .e .0) js → Completes q u p (completeHead q u t g js) (with x ph (x .w .0) (x .e .0))
     go (working j {js = []} k l) n (close _ c) = record {
       to-next = λ b. absurd (omega (arith, ltb-true 1 (x .jobs) b));
       to-wait = λ b. changed x a refl (ahead k);

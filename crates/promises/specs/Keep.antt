@@ -37,7 +37,8 @@ module _ {m q t : ℕ} {xs : List Thread} (r : Rows m q t xs) where
   fine-at i h = all-at m xs i blank (r .fine) h (inside h)
 
   -- a thread in another's place that has its share, is no further behind and claims no more
-  pub put-rows : (i : ℕ) (v : Thread) → i < m → v .share ≡ at xs i .share → Fine q t v → deficit t v ≤ deficit t (at xs i) → ((k n : ℕ) → claim t k n v ≤ claim t k n (at xs i)) → Rows m q t (set xs i v)
+  pub put-rows : (i : ℕ) (v : Thread) → i < m → v .share ≡ at xs i .share → Fine q t v → deficit t v ≤ deficit t (at xs i)
+      → ((k n : ℕ) → claim t k n v ≤ claim t k n (at xs i)) → Rows m q t (set xs i v)
   put-rows i v h e f d c = record {
     long = length-set xs i v ∙ r .long;
     few = r .few;
@@ -51,7 +52,8 @@ module _ {m q t : ℕ} {xs : List Thread} (r : Rows m q t xs) where
       same = sum-store share m xs i v blank e
 
   -- the same of all threads at once
-  map-rows : (f : Thread → Thread) → ((x : Thread) → f x .share ≡ x .share) → ((x : Thread) → Fine q t x → Fine q t (f x)) → ((x : Thread) → deficit t (f x) ≤ deficit t x) → ((k n : ℕ) (x : Thread) → claim t k n (f x) ≤ claim t k n x) → Rows m q t (mapTo m f xs)
+  map-rows : (f : Thread → Thread) → ((x : Thread) → f x .share ≡ x .share) → ((x : Thread) → Fine q t x → Fine q t (f x))
+      → ((x : Thread) → deficit t (f x) ≤ deficit t x) → ((k n : ℕ) (x : Thread) → claim t k n (f x) ≤ claim t k n x) → Rows m q t (mapTo m f xs)
   map-rows f e g d c = record {
     long = map-length m f xs ∙ r .long;
     few = r .few;
@@ -143,7 +145,8 @@ module _ (r : ℕ) (xs : List Thread) (i : ℕ) where
 -- ---- the benefits of the applications below n but own
 module _ (own : ℕ) (s : State) where
   -- one application more
-  benefits-keep : (P : List Thread → Type 0) (a : ℕ) (xs : List Thread) → P (benefits own s a xs) → P (loseAt (pos (freeOf a s)) (benefits own s a xs) (beneficiary a s)) → P (benefits own s (suc a) xs)
+  benefits-keep : (P : List Thread → Type 0) (a : ℕ) (xs : List Thread) → P (benefits own s a xs)
+      → P (loseAt (pos (freeOf a s)) (benefits own s a xs) (beneficiary a s)) → P (benefits own s (suc a) xs)
   unfolding benefits
   benefits-keep P a xs p l = by-test P (eqb a own) (λ _. p) (λ _. l)
 
@@ -159,20 +162,23 @@ module _ (own : ℕ) (s : State) where
   benefits-length (suc a) xs = let i = benefits-length a xs in
       benefits-keep (λ ys. length ys ≡ length xs) a xs i (lose-length (freeOf a s) (benefits own s a xs) (beneficiary a s) ∙ i)
 
-  pub benefits-sum : (f : Thread → ℕ) → ((r : ℕ) (x : Thread) → f (loses (pos r) x) ≡ f x) → (m n : ℕ) (xs : List Thread) → sumBy f (take m (benefits own s n xs)) ≡ sumBy f (take m xs)
+  pub benefits-sum : (f : Thread → ℕ) → ((r : ℕ) (x : Thread) → f (loses (pos r) x) ≡ f x) → (m n : ℕ) (xs : List Thread)
+      → sumBy f (take m (benefits own s n xs)) ≡ sumBy f (take m xs)
   unfolding benefits
   benefits-sum f h m zero xs = refl
   benefits-sum f h m (suc a) xs = let i = benefits-sum f h m a xs in
       benefits-keep (λ ys. sumBy f (take m ys) ≡ sumBy f (take m xs)) a xs i (lose-sum (freeOf a s) (benefits own s a xs) (beneficiary a s) m f (h (freeOf a s)) ∙ i)
 
-  pub benefits-all : (P : Thread → Type 0) → ((r : ℕ) (x : Thread) → P x → P (loses (pos r) x)) → (m n : ℕ) (xs : List Thread) → All P (take m xs) → All P (take m (benefits own s n xs))
+  pub benefits-all : (P : Thread → Type 0) → ((r : ℕ) (x : Thread) → P x → P (loses (pos r) x)) → (m n : ℕ) (xs : List Thread) → All P (take m xs)
+      → All P (take m (benefits own s n xs))
   unfolding benefits
   benefits-all P f m zero xs p = p
   benefits-all P f m (suc a) xs p = let i = benefits-all P f m a xs p in
       benefits-keep (λ ys. All P (take m ys)) a xs i (lose-all (freeOf a s) (benefits own s a xs) (beneficiary a s) m P (f (freeOf a s)) i)
 
   -- a sum that rises by at most k times what is taken
-  pub benefits-le : (f : Thread → ℕ) (k : ℕ) → ((r : ℕ) (x : Thread) → f (loses (pos r) x) ≤ f x + k * r) → (m n : ℕ) (xs : List Thread) → sumBy f (take m (benefits own s n xs)) ≤ sumBy f (take m xs) + k * others own n (λ b. freeOf b s)
+  pub benefits-le : (f : Thread → ℕ) (k : ℕ) → ((r : ℕ) (x : Thread) → f (loses (pos r) x) ≤ f x + k * r) → (m n : ℕ) (xs : List Thread)
+      → sumBy f (take m (benefits own s n xs)) ≤ sumBy f (take m xs) + k * others own n (λ b. freeOf b s)
   unfolding benefits others
   benefits-le f k h m zero xs = omega arith
   benefits-le f k h m (suc a) xs = go (eqb a own) (benefits-le f k h m a xs)
@@ -186,7 +192,8 @@ module _ (own : ℕ) (s : State) where
       go false rec = omega (arith, lose-le (freeOf a s) ys (beneficiary a s) m f (k * freeOf a s) (h (freeOf a s)))
 
   -- every beneficiary is active
-  pub benefits-fine : (q t n : ℕ) → s .count ≤ length (s .threads) → All (Fine q t) (take (s .count) (s .threads)) → All (Fine q t) (take (s .count) (benefits own s n (s .threads)))
+  pub benefits-fine : (q t n : ℕ) → s .count ≤ length (s .threads) → All (Fine q t) (take (s .count) (s .threads))
+      → All (Fine q t) (take (s .count) (benefits own s n (s .threads)))
   unfolding benefits
   benefits-fine q t zero l p = p
   benefits-fine q t (suc a) l p = let i = benefits-fine q t a l p in

@@ -130,7 +130,8 @@ module _ {q u p i : ℕ} where
   ticks-books zero good b = b
   ticks-books (suc k) {g} {s} good b = rw (account-append q u i g (ticksOf k s) (tickOf (stateAfter k s))) (tick-books (steps-good k good) (ticks-books k good b))
 
-  run-books : (to : ℕ) (row : List ℕ) {g : Account} {s : State} → Good s → Books q u p i g s → Books q u p i (account q u i g (happens s (calls.run to row))) (ran s to row .result .state)
+  run-books : (to : ℕ) (row : List ℕ) {g : Account} {s : State} → Good s → Books q u p i g s
+      → Books q u p i (account q u i g (happens s (calls.run to row))) (ran s to row .result .state)
   unfolding account
   run-books to row {g} {s} good b = by-run s After to row (λ _. b) (ticks-books (to - s .clock .0) good b)
     where

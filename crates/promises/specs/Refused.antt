@@ -52,7 +52,8 @@ module _ (s : State) where
       n : ℕ
       n = to - s .clock .0
 
-      go : (b c : Bool) → cond b (refused 12 s) (cond c (refused 13 s) (done (stateAfter n s))) ≡ cond b (unrun 12 s row) (cond c (unrun 13 s row) (record { result = done (stateAfter n s); row = rowAfter n s ++ drop n row })) .result
+      go : (b c : Bool)
+          → cond b (refused 12 s) (cond c (refused 13 s) (done (stateAfter n s))) ≡ cond b (unrun 12 s row) (cond c (unrun 13 s row) (record { result = done (stateAfter n s); row = rowAfter n s ++ drop n row })) .result
       go true c = refl
       go false true = refl
       go false false = refl

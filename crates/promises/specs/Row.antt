@@ -32,7 +32,8 @@ apart NonContending n c = c
 
 module _ (q t : ℕ) (x : Thread) (f : Fine q t x) where
   -- the same row with another phase, W, E and number of jobs
-  fine-as : (p : Phase) (w e : ℤ) (n : ℕ) → n ≤ maxJobs → Shape p n w e → w ≼ e → (T (isContending p) → x .share * t ≤ up e) → dn e ≡ 0 → up w ≤ q * t → up e ≤ q * t + q + x .share * x .period → Fine q t (withJobs (with x p w e) n)
+  fine-as : (p : Phase) (w e : ℤ) (n : ℕ) → n ≤ maxJobs → Shape p n w e → w ≼ e → (T (isContending p) → x .share * t ≤ up e) → dn e ≡ 0 → up w ≤ q * t
+      → up e ≤ q * t + q + x .share * x .period → Fine q t (withJobs (with x p w e) n)
   fine-as p w e n j s o d h k l = record {
     app-max = f .app-max;
     share-min = f .share-min;
@@ -92,7 +93,8 @@ module _ (q t : ℕ) (x : Thread) (f : Fine q t x) where
       up-P : ℕ
       up-P = x .share * x .period
 
-      go : (p : Phase) → (T (isNon p) → x .share * t + dn (x .w .0) < up (x .w .0)) → (T (isContending p) → x .share * t ≤ up (x .e .0)) → Fine q t (withJobs (arriveAs p t x) (x .jobs + 1))
+      go : (p : Phase) → (T (isNon p) → x .share * t + dn (x .w .0) < up (x .w .0)) → (T (isContending p) → x .share * t ≤ up (x .e .0))
+          → Fine q t (withJobs (arriveAs p t x) (x .jobs + 1))
       go Inactive a d = let k = mul-le-mul-right t (f .share-max) in
           fine-as Contending (scaled x t) (scaled x t +ℤ scaled x (x .period)) (x .jobs + 1) (omega arith) (omega arith) (omega arith) (λ _. omega arith) refl (omega arith) (omega arith)
       go Contending a d = fine-as Contending (x .w .0) (x .e .0) (x .jobs + 1) (omega arith) (omega arith) (f .ordered) d (f .e-whole) (f .w-up) (f .e-up)

@@ -57,7 +57,8 @@ pub gone-is : (s : State) → gone s ≡ withRows s (mapTo (s .count) (leaves s)
 unfolding gone
 gone-is s = go (s .closed)
   where
-    go : (c : Bool) → cond c s (withRows s (mapTo (s .count) (leave (s .clock .0)) (s .threads))) ≡ withRows s (mapTo (s .count) (λ (x : Thread). cond c x (leave (s .clock .0) x)) (s .threads))
+    go : (c : Bool)
+        → cond c s (withRows s (mapTo (s .count) (leave (s .clock .0)) (s .threads))) ≡ withRows s (mapTo (s .count) (λ (x : Thread). cond c x (leave (s .clock .0) x)) (s .threads))
     go true = ap (withRows s) (sym (map-stays (s .count) (s .threads)))
     go false = refl
 
@@ -84,7 +85,8 @@ module _ (xs : List Thread) (i : ℕ) where
   unfolding freeShare
   free-other l a n = sum-more (freeShare a) xs i blank l ∙ zero-more (and-other a n (isInactive (at xs i .phase)))
     where
-      zero-more : (isInactive (at xs i .phase) && eqb (at xs i .app) a) ≡ false → free a i xs + cond (isInactive (at xs i .phase) && eqb (at xs i .app) a) (at xs i .share) 0 ≡ free a i xs
+      zero-more : (isInactive (at xs i .phase) && eqb (at xs i .app) a) ≡ false
+          → free a i xs + cond (isInactive (at xs i .phase) && eqb (at xs i .app) a) (at xs i .share) 0 ≡ free a i xs
       zero-more e = rw e (omega arith)
 
   first-other : (a : ℕ) → (a ≡ at xs i .app → ⊥) → earliest (activeIn a) (i + 1) xs ≡ earliest (activeIn a) i xs
@@ -145,7 +147,8 @@ module _ (xs : List Thread) (i : ℕ) (f : List ℕ) (long : length f ≡ 16) (x
   pub free-more : i < length xs → Table16 (λ a. free a i xs) f → Table16 (λ a. free a (i + 1) xs) (set f app (getD f app 0 + cond (isInactive (x .phase)) (x .share) 0))
   free-more l inv = table-more (λ a. free a i xs) (λ a. free a (i + 1) xs) f app _ long k inv (free-own l inv) (λ a n. free-other xs i l a (other n))
 
-  pub best-more : (o : Thread) → o ≡ at xs (besideOf (getD f app 0) i) → Table16 (λ a. earliest (activeIn a) i xs) f → Table16 (λ a. earliest (activeIn a) (i + 1) xs) (set f app (firstOf (active x) x o (getD f app 0) i))
+  pub best-more : (o : Thread) → o ≡ at xs (besideOf (getD f app 0) i) → Table16 (λ a. earliest (activeIn a) i xs) f
+      → Table16 (λ a. earliest (activeIn a) (i + 1) xs) (set f app (firstOf (active x) x o (getD f app 0) i))
   best-more o h inv =
       table-more (λ a. earliest (activeIn a) i xs) (λ a. earliest (activeIn a) (i + 1) xs) f app _ long k inv
       (ap (λ c. firstOf c x o (getD f app 0) i) (with-own (active x)) ∙ first-more (activeIn app) xs i (getD f app 0) (inv app k) x o e h)
@@ -161,6 +164,7 @@ module _ (own a : ℕ) (s : State) (xs : List Thread) where
   unfolding benefits loseAt
   hand-none n e = rw (add-one, ne-eqb a own n, e)
 
-  pub hand-one : (a ≡ own → ⊥) → (b : ℕ) → b ≡ beneficiary a s → (b ≡ nobody → ⊥) → (r : ℕ) → r ≡ freeOf a s → set (benefits own s a xs) b (loses (pos r) (at (benefits own s a xs) b)) ≡ benefits own s (a + 1) xs
+  pub hand-one : (a ≡ own → ⊥) → (b : ℕ) → b ≡ beneficiary a s → (b ≡ nobody → ⊥) → (r : ℕ) → r ≡ freeOf a s
+      → set (benefits own s a xs) b (loses (pos r) (at (benefits own s a xs) b)) ≡ benefits own s (a + 1) xs
   unfolding benefits loseAt
   hand-one n b e m r k = rw (add-one, ne-eqb a own n, ← e, ne-eqb b nobody m, k)

@@ -36,13 +36,15 @@ late-claims t k n h none = omega arith
 late-claims t k n h (more {x} p a) = omega (arith, claim-le t k n x h p, late-claims t k n h a)
 
 -- no deadline is early where the earliest is not
-late-as : (k n u : ℕ) (e : ℤ) (p : Phase) (v : ℕ) (d : ℤ) → 0 < u → n * u + dn e * k < up e * k → 0 < v → (T (isContending p) → up e * v + dn d * u ≤ up d * u + dn e * v) → NotEarly k n v p d
+late-as : (k n u : ℕ) (e : ℤ) (p : Phase) (v : ℕ) (d : ℤ) → 0 < u → n * u + dn e * k < up e * k → 0 < v
+    → (T (isContending p) → up e * v + dn d * u ≤ up d * u + dn e * v) → NotEarly k n v p d
 late-as k n u e Inactive v d h l i f = tt
 late-as k n u e Contending v d h l i f = lt-of-mul-lt-mul-left u (omega (arith, mul-le-mul-left k (f tt), mul-lt-mul-of-pos-left {k = v} l i))
 late-as k n u e NonContending v d h l i f = tt
 
 -- .. in a table that c leads
-pub late-all : {m q t : ℕ} {xs : List Thread} → Rows m q t xs → {c : ℕ} → Leads m xs c → (k n : ℕ) → T (not (early k n (at xs c .share) (at xs c .e .0))) → All (Late k n) (take m xs)
+pub late-all : {m q t : ℕ} {xs : List Thread} → Rows m q t xs → {c : ℕ} → Leads m xs c → (k n : ℕ)
+    → T (not (early k n (at xs c .share) (at xs c .e .0))) → All (Late k n) (take m xs)
 late-all {m} {q} {t} {xs} r {c} l k n b =
     all-of m xs blank (omega (arith, r .few, r .long))
     (λ j h. late-as k n (at xs c .share) (at xs c .e .0) (at xs j .phase) (at xs j .share) (at xs j .e .0) (fine-at r c (l .inside) .share-min) (nleb→lt _ _ b) (fine-at r j h .share-min) (l .first j h))

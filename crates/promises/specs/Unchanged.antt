@@ -7,10 +7,10 @@ use lib.Dec.{eqb, ltb}
 use lib.IntN.{ℤ, pos}
 use lib.Signed.{ltZ}
 use lib.ListN.{set}
-use Rattle.lists.specs.MapTo.{map-keeps}
+use Rattle.lists.specs.MapTo.{mapTo, map-keeps}
 use Rattle.lists.specs.Take.{at-upd}
 use Rattle.rules.specs.Limits.{apps, nobody}
-use Rattle.rules.specs.Threads.{Thread, State, Phase, Inactive, Contending, NonContending, withJobs, blank, at, scaled, idle, loses, loseAt, freeOf}
+use Rattle.rules.specs.Threads.{Thread, State, Phase, Inactive, Contending, NonContending, withJobs, withRows, blank, at, scaled, idle, loses, loseAt, freeOf}
 use Rattle.rules.specs.Table.{Answered}
 use Rattle.rules.specs.Completion.{goesOn, stays, ends, freed, gives, completing, afterCompletion, completion}
 use Rattle.rules.specs.Leaving.{leave, gone}
@@ -72,7 +72,8 @@ module _ (x y : Thread) (k : SameRow x y) where
 
 -- ---- the changes of the threads
 -- one thread by a change of it
-row-set : (h : Thread → Thread) → ((x y : Thread) → SameRow x y → SameRow x (h y)) → (xs ys : List Thread) (c : ℕ) → ((i : ℕ) → SameRow (at xs i) (at ys i)) → (i : ℕ) → SameRow (at xs i) (at (set ys c (h (at ys c))) i)
+row-set : (h : Thread → Thread) → ((x y : Thread) → SameRow x y → SameRow x (h y)) → (xs ys : List Thread) (c : ℕ)
+    → ((i : ℕ) → SameRow (at xs i) (at ys i)) → (i : ℕ) → SameRow (at xs i) (at (set ys c (h (at ys c))) i)
 row-set h f xs ys c k i = at-upd {P = SameRow (at xs i)} h (f (at xs i)) ys c i blank (k i)
 
 row-lose : (z : ℤ) (xs ys : List Thread) (c : ℕ) → ((i : ℕ) → SameRow (at xs i) (at ys i)) → (i : ℕ) → SameRow (at xs i) (at (loseAt z ys c) i)
@@ -84,29 +85,44 @@ unfolding benefits
 row-benefits own s zero xs i = same-row (at xs i)
 row-benefits own s (suc a) xs i = go (eqb a own) (row-benefits own s a xs)
   where
-    go : (b : Bool) → ((i : ℕ) → SameRow (at xs i) (at (benefits own s a xs) i)) → SameRow (at xs i) (at (cond b (benefits own s a xs) (loseAt (pos (freeOf a s)) (benefits own s a xs) (beneficiary a s))) i)
+    go : (b : Bool) → ((i : ℕ) → SameRow (at xs i) (at (benefits own s a xs) i))
+        → SameRow (at xs i) (at (cond b (benefits own s a xs) (loseAt (pos (freeOf a s)) (benefits own s a xs) (beneficiary a s))) i)
     go true k = k i
     go false k = row-lose (pos (freeOf a s)) xs (benefits own s a xs) (beneficiary a s) k i
 
 -- ---- the parts of a step
+-- every thread by a change of it
+mapped-same : (s : State) (h : Thread → Thread) → ((x y : Thread) → SameRow x y → SameRow x (h y)) → SameTable s (withRows s (mapTo (s .count) h (s .threads)))
+mapped-same s h f = record {
+  count = refl;
+  q = refl;
+  row = λ i. let x = at (s .threads) i in map-keeps {P = SameRow x} (s .count) h (f x) (s .threads) i blank (same-row x);
+}
+
 gone-same : (s : State) → SameTable s (gone s)
 unfolding gone
-gone-same s = by-test (SameTable s) (s .closed) (λ _. same-table s) (λ _. record { count = refl; q = refl; row = λ i. map-keeps {P = SameRow (at (s .threads) i)} (s .count) (leave (s .clock .0)) (λ y k. row-leave (at (s .threads) i) y k (s .clock .0)) (s .threads) i blank (same-row (at (s .threads) i)) })
+gone-same s =
+    by-test (SameTable s) (s .closed) (λ _. same-table s)
+    (λ _. mapped-same s (leave (s .clock .0)) (λ x y k. row-leave x y k (s .clock .0)))
 
 fitted-same : (s : State) → SameTable s (fitted s)
 unfolding fitted
-fitted-same s = record { count = refl; q = refl; row = λ i. map-keeps {P = SameRow (at (s .threads) i)} (s .count) (fitIn s) (λ y k. row-fit (at (s .threads) i) y k _) (s .threads) i blank (same-row (at (s .threads) i)) }
+fitted-same s = mapped-same s (fitIn s) (λ x y k. row-fit x y k (roomOf s y))
 
 pub ready-same : (s : State) → SameTable s (ready s)
 ready-same s = same-then (gone-same s) (fitted-same (gone s))
 
 idle-same : (s : State) → SameTable s (moved (idled s) nobody)
 unfolding moved idled
-idle-same s = record { count = refl; q = refl; row = λ i. map-keeps {P = SameRow (at (s .threads) i)} (s .count) idle (λ y k. k) (s .threads) i blank (same-row (at (s .threads) i)) }
+idle-same s = let m = mapped-same s idle (λ x y k. k) in record { count = m .count; q = m .q; row = m .row }
 
 charge-same : (s : State) (c : ℕ) → SameTable s (moved (charged s c) c)
 unfolding moved charged
-charge-same s c = record { count = refl; q = refl; row = row-set (gains (roomOf s (at (s .threads) c))) (λ x y k. k) (s .threads) (benefited (at (s .threads) c .app) s) c (row-benefits (at (s .threads) c .app) s apps (s .threads)) }
+charge-same s c = let x = at (s .threads) c in record {
+  count = refl;
+  q = refl;
+  row = row-set (gains (roomOf s x)) (λ x y k. k) (s .threads) (benefited (x .app) s) c (row-benefits (x .app) s apps (s .threads));
+}
 
 pub step-same : (s : State) → SameTable s (stepped s .state)
 step-same s =

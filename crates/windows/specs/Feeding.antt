@@ -67,7 +67,8 @@ module _ (p : Progress) (on-going : p .done ≡ false) (w s : List ℕ) where
       known-rest q o = rw o (list-open (q .reading) (q .place) s ∙ rw (frame, known))
 
       -- no tick is due
-      read-kept : ticksDue (p .reading) e ≡ 0 → (a : Answer) (r : Reading) → recordRead (p .reading) e .answer ≡ a → recordRead (p .reading) e .reading ≡ r → Kept p w s (readMove p n a r)
+      read-kept : ticksDue (p .reading) e ≡ 0 → (a : Answer) (r : Reading) → recordRead (p .reading) e .answer ≡ a
+          → recordRead (p .reading) e .reading ≡ r → Kept p w s (readMove p n a r)
       unfolding tickLines
       read-kept zero-due Done r ea er = (within, known-rest p on-going ∙ rw (zero-due, ea, er) (rw on-going (list-any (length s) (length (drop n s)) r (p .place + n) (drop n s) (omega (arith, length-drop n s)) (omega arith))))
       read-kept zero-due (Refused m) r ea er = last-line (refusalLine m (p .place)) (known-rest p on-going ∙ rw (zero-due, ea))
@@ -121,7 +122,8 @@ module _ (last : Bool) (p : Progress) (w tail : List ℕ) (end : last ≡ true �
   ended-kept o h true l = last-line p o w (w ++ tail) (ending (p .reading) (p .place)) (opened p o w (w ++ tail) ∙ rw (all-of-it l, ended w h))
 
   -- where the window shows that no record can come, or the input ends
-  cut-kept : p .done ≡ false → ((last ≡ true) → frameOf (w ++ tail) ≡ records.Cut) → (widest ≤ length w → frameOf (w ++ tail) ≡ records.Cut) → (l : Bool) → last ≡ l → Kept p w (w ++ tail) (cond (l || leb widest (length w)) (stops p 14) stays)
+  cut-kept : p .done ≡ false → ((last ≡ true) → frameOf (w ++ tail) ≡ records.Cut) → (widest ≤ length w → frameOf (w ++ tail) ≡ records.Cut)
+      → (l : Bool) → last ≡ l → Kept p w (w ++ tail) (cond (l || leb widest (length w)) (stops p 14) stays)
   cut-kept o f g true l = last-line p o w (w ++ tail) (refusalLine 14 (p .place)) (opened p o w (w ++ tail) ∙ rw (f l))
   cut-kept o f g false l = by-test (λ (m : Move). Kept p w (w ++ tail) m) (leb widest (length w)) (λ h. last-line p o w (w ++ tail) (refusalLine 14 (p .place)) (opened p o w (w ++ tail) ∙ rw (g (leb-true _ _ h)))) (λ _. tt)
 
@@ -145,7 +147,11 @@ module _ (last : Bool) (p : Progress) (w tail : List ℕ) (end : last ≡ true �
       (λ _. frame-kept o)))
 
 -- ---- a call
-advanced-kept : (k : ℕ) (last : Bool) (room : ℕ) (p : Progress) (w tail : List ℕ) → (last ≡ true → tail ≡ []) → Bytes w → (advanced k last room p w .taken ≤ length w) × (rest p (w ++ tail) ≡ advanced k last room p w .text ++ rest (advanced k last room p w .progress) (drop (advanced k last room p w .taken) (w ++ tail)))
+-- what it brings keeps to the listing of the input s, of which w is a window
+abbrev Brought : Progress → List ℕ → List ℕ → Advanced → Type 0
+Brought p w s a = (a .taken ≤ length w) × (rest p s ≡ a .text ++ rest (a .progress) (drop (a .taken) s))
+
+advanced-kept : (k : ℕ) (last : Bool) (room : ℕ) (p : Progress) (w tail : List ℕ) → (last ≡ true → tail ≡ []) → Bytes w → Brought p w (w ++ tail) (advanced k last room p w)
 unfolding advanced
 advanced-kept zero last room p w tail end bytes = (omega arith, refl)
 advanced-kept (suc k) last room p w tail end bytes = by (move last room p w) (move-kept last p w tail end bytes room) (λ r q v e. advanced-kept k last r q v tail end e)
@@ -154,9 +160,9 @@ advanced-kept (suc k) last room p w tail end bytes = by (move last room p w) (mo
     bring m = moved (λ r q v. advanced k last r q v) room p w m
 
     Before : Type 0
-    Before = (r : ℕ) (q : Progress) (v : List ℕ) → Bytes v → (advanced k last r q v .taken ≤ length v) × (rest q (v ++ tail) ≡ advanced k last r q v .text ++ rest (advanced k last r q v .progress) (drop (advanced k last r q v .taken) (v ++ tail)))
+    Before = (r : ℕ) (q : Progress) (v : List ℕ) → Bytes v → Brought q v (v ++ tail) (advanced k last r q v)
 
-    by : (m : Move) → Kept p w (w ++ tail) m → Before → (bring m .taken ≤ length w) × (rest p (w ++ tail) ≡ bring m .text ++ rest (bring m .progress) (drop (bring m .taken) (w ++ tail)))
+    by : (m : Move) → Kept p w (w ++ tail) m → Before → Brought p w (w ++ tail) (bring m)
     by stays h before = (omega arith, refl)
     by (moves n t q) h before =
         let a = advanced k last (room - length t) q (drop n w) in

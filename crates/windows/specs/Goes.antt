@@ -97,12 +97,15 @@ advanced-any zero m last room p w h l = absurd (omega arith)
 advanced-any (suc k) zero last room p w h l = absurd (omega arith)
 advanced-any (suc k) (suc m) last room p w h l = by (move last room p w) (move-less last room p w) (λ r q v a b. advanced-any k m last r q v a b)
   where
-    by : (x : Move) → Less room w x → ((r : ℕ) (q : Progress) (v : List ℕ) → r + length v < k → r + length v < m → advanced k last r q v ≡ advanced m last r q v) → moved (λ r q v. advanced k last r q v) room p w x ≡ moved (λ r q v. advanced m last r q v) room p w x
+    by : (x : Move) → Less room w x
+        → ((r : ℕ) (q : Progress) (v : List ℕ) → r + length v < k → r + length v < m → advanced k last r q v ≡ advanced m last r q v)
+        → moved (λ r q v. advanced k last r q v) room p w x ≡ moved (λ r q v. advanced m last r q v) room p w x
     by stays f on = refl
     by (moves n t q) f on = ap (joined n t) (on (room - length t) q (drop n w) (omega (arith, f .1, length-drop n w)) (omega (arith, f .1, length-drop n w)))
 
 -- a call goes on from move to move
-pub advance-moves : (last : Bool) (room : ℕ) (p : Progress) (w : List ℕ) (n : ℕ) (t : List ℕ) (q : Progress) → move last room p w ≡ moves n t q → advance last room p w ≡ joined n t (advance last (room - length t) q (drop n w))
+pub advance-moves : (last : Bool) (room : ℕ) (p : Progress) (w : List ℕ) (n : ℕ) (t : List ℕ) (q : Progress) → move last room p w ≡ moves n t q
+    → advance last room p w ≡ joined n t (advance last (room - length t) q (drop n w))
 unfolding advance advanced
 advance-moves last room p w n t q e =
     advanced-any (room + length w + 1) (suc (room + length w + 1)) last room p w (omega arith) (omega arith)
@@ -157,7 +160,8 @@ module _ (last : Bool) (p : Progress) (w : List ℕ) where
       (λ _. frame-goes k)))
 
   -- .. it takes a byte or writes one
-  pub goes-on : (room : ℕ) → p .done ≡ false → longest ≤ room → p .place ≤ farthest → (last ≡ false → widest ≤ length w) → 1 ≤ advance last room p w .taken + length (advance last room p w .text)
+  pub goes-on : (room : ℕ) → p .done ≡ false → longest ≤ room → p .place ≤ farthest → (last ≡ false → widest ≤ length w)
+      → 1 ≤ advance last room p w .taken + length (advance last room p w .text)
   goes-on room d h f k = by (move last room p w) refl (move-goes room d h f k) (move-less last room p w)
     where
       by : (m : Move) → move last room p w ≡ m → Goes m → Less room w m → 1 ≤ advance last room p w .taken + length (advance last room p w .text)

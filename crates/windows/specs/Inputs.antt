@@ -48,7 +48,8 @@ pub not-ended : (s : List ℕ) → (length s ≡ 0 → ⊥) → frameOf s ≡ En
 not-ended s h e = subst Some e (frame-some s h)
 
 -- ---- as many steps as the rest of the input has bytes are enough: more of them change nothing
-on-same : (a : Answer) (k m : ℕ) (r : Reading) (b n : ℕ) (s : List ℕ) → readFrom k r (b + n) (drop n s) ≡ readFrom m r (b + n) (drop n s) → readOn a (readFrom k) r b n s ≡ readOn a (readFrom m) r b n s
+on-same : (a : Answer) (k m : ℕ) (r : Reading) (b n : ℕ) (s : List ℕ) → readFrom k r (b + n) (drop n s) ≡ readFrom m r (b + n) (drop n s)
+    → readOn a (readFrom k) r b n s ≡ readOn a (readFrom m) r b n s
 on-same Done k m r b n s e = e
 on-same (Refused j) k m r b n s e = refl
 
@@ -59,7 +60,8 @@ read-any zero (suc m) r b s h l = rw (ended s (omega arith))
 read-any (suc k) zero r b s h l = rw (ended s (omega arith))
 read-any (suc k) (suc m) r b s h l = go (frameOf s) (frame-within s) (read-any k m)
   where
-    go : (f : Frame) → Within s f → ((r : Reading) (b : ℕ) (s : List ℕ) → length s ≤ k → length s ≤ m → readFrom k r b s ≡ readFrom m r b s) → readFrame (readFrom k) r b s f ≡ readFrame (readFrom m) r b s f
+    go : (f : Frame) → Within s f → ((r : Reading) (b : ℕ) (s : List ℕ) → length s ≤ k → length s ≤ m → readFrom k r b s ≡ readFrom m r b s)
+        → readFrame (readFrom k) r b s f ≡ readFrame (readFrom m) r b s f
     go Ended w ih = refl
     go Cut w ih = refl
     go (Whole kind n) w ih =

@@ -86,7 +86,8 @@ arrive-plain : (t : ℕ) (x : Thread) → x .phase ≡ Contending → arrive t x
 unfolding arrive
 arrive-plain t x e = rw e
 
-arrival-plain : (s : State) (i : ℕ) → s .closed ≡ true → i < s .count → contends (at (s .threads) i) ≡ true → at (s .threads) i .jobs < maxJobs → arrival s i ≡ done (recounted s i (at (s .threads) i .jobs + 1))
+arrival-plain : (s : State) (i : ℕ) → s .closed ≡ true → i < s .count → contends (at (s .threads) i) ≡ true → at (s .threads) i .jobs < maxJobs
+    → arrival s i ≡ done (recounted s i (at (s .threads) i .jobs + 1))
 unfolding arrival gone
 arrival-plain s i c h p j =
     rw (lt-ltb _ _ h, lt-ltb _ _ j, c)
@@ -118,21 +119,25 @@ module _ (r : Reading) (g : GoodReading r) where
   abbrev Reads : Record → ℕ → ℕ → Type 0
   Reads e k j = (ticksDue r e ≡ 0) × (recordRead r e ≡ readAs Done (withState r (recounted (r .state) k j)) r)
 
-  arrival-reads : (m : Moment) (i : ℕ) → m .0 ≡ r .state .clock .0 → i < r .state .count → r .state .closed ≡ true → contends (at (r .state .threads) i) ≡ true → at (r .state .threads) i .jobs < maxJobs → Reads (Arrival m i) i (at (r .state .threads) i .jobs + 1)
+  arrival-reads : (m : Moment) (i : ℕ) → m .0 ≡ r .state .clock .0 → i < r .state .count → r .state .closed ≡ true
+      → contends (at (r .state .threads) i) ≡ true → at (r .state .threads) i .jobs < maxJobs
+      → Reads (Arrival m i) i (at (r .state .threads) i .jobs + 1)
   unfolding ticksDue beforeTicks recordRead eventRead stateAfter
   arrival-reads m i now h c p j = (
     rw (begun-events i h, before-plain m i now h) (at-once m i now h),
     rw (begun-events i h, before-plain m i now h, at-once m i now h, arrival-plain (r .state) i c h p j),
   )
 
-  drop-reads : (m : Moment) (i : ℕ) → m .0 ≡ r .state .clock .0 → i < r .state .count → Reads (Drop m i) i (cond (ltb 1 (at (r .state .threads) i .jobs)) 1 (at (r .state .threads) i .jobs))
+  drop-reads : (m : Moment) (i : ℕ) → m .0 ≡ r .state .clock .0 → i < r .state .count
+      → Reads (Drop m i) i (cond (ltb 1 (at (r .state .threads) i .jobs)) 1 (at (r .state .threads) i .jobs))
   unfolding ticksDue beforeTicks recordRead eventRead stateAfter
   drop-reads m i now h = (
     rw (begun-events i h, before-plain m i now h) (at-once m i now h),
     rw (begun-events i h, before-plain m i now h, at-once m i now h, drop-plain (r .state) i h),
   )
 
-  pub plain-reads : (e : Record) (k j : ℕ) → touched e (r .state .clock .0) (r .state .count) ≡ k → (k ≡ nobody → ⊥) → jobsAfter (at (r .state .threads) k) e (r .state .closed) ≡ j → j ≤ maxJobs → Reads e k j
+  pub plain-reads : (e : Record) (k j : ℕ) → touched e (r .state .clock .0) (r .state .count) ≡ k → (k ≡ nobody → ⊥)
+      → jobsAfter (at (r .state .threads) k) e (r .state .closed) ≡ j → j ≤ maxJobs → Reads e k j
   plain-reads (Head q n) k j t some js few = absurd (some (sym t))
   plain-reads (Row x) k j t some js few = absurd (some (sym t))
   plain-reads (Arrival m i) k j t some js few =

@@ -62,7 +62,9 @@ unfolding advanced
 advanced-given zero last room p w g = g
 advanced-given (suc k) last room p w g = by (move last room p w) (move-brings p g last room w) (λ r q v h. advanced-given k last r q v h)
   where
-    by : (m : Move) → Brings m → ((r : ℕ) (q : Progress) (v : List ℕ) → GivenReading (q .reading) → GivenReading (advanced k last r q v .progress .reading)) → GivenReading (moved (λ r q v. advanced k last r q v) room p w m .progress .reading)
+    by : (m : Move) → Brings m
+        → ((r : ℕ) (q : Progress) (v : List ℕ) → GivenReading (q .reading) → GivenReading (advanced k last r q v .progress .reading))
+        → GivenReading (moved (λ r q v. advanced k last r q v) room p w m .progress .reading)
     by stays h on = g
     by (moves n t q) h on = on (room - length t) q (drop n w) h
 

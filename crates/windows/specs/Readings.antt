@@ -42,7 +42,8 @@ reading-by g e = record {
 }
 
 -- a run to the moment n ticks ahead
-ticks-read : (r : Reading) (n : ℕ) → atEvents r ≡ true → r .state .clock .0 + n ≤ clockEnd → recordRead r (RunTo (moment (r .state .clock .0 + n))) .reading ≡ withState r (stateAfter n (r .state))
+ticks-read : (r : Reading) (n : ℕ) → atEvents r ≡ true → r .state .clock .0 + n ≤ clockEnd
+    → recordRead r (RunTo (moment (r .state .clock .0 + n))) .reading ≡ withState r (stateAfter n (r .state))
 unfolding recordRead eventRead beforeTicks
 ticks-read r n e h =
     let d : (r .state .clock .0 + n) - r .state .clock .0 ≡ n = omega arith in

@@ -13,7 +13,7 @@ use Rattle.rules.specs.Table.{Answer, Done, Refused, first}
 use Rattle.rules.specs.Step.{stepped}
 use Rattle.rules.specs.Run.{stateAfter}
 use Rattle.rules.specs.Records.{Moment, Record, Head, Row, Arrival, Completion, RunTo, Drop}
-use Rattle.rules.specs.Reading.{Reading, atHead, atRows, atEvents, inPlace, momentAnswer, threadAnswer, beforeTicks, ticksTo, ticksBefore, dueAs, ticksDue, atItsMoment, eventOf, eventRead, readAs, withState, placedRead, recordRead}
+use Rattle.rules.specs.Reading.{Reading, Read, atHead, atRows, atEvents, inPlace, momentAnswer, threadAnswer, beforeTicks, ticksTo, ticksBefore, dueAs, ticksDue, atItsMoment, eventOf, eventRead, readAs, withState, placedRead, recordRead}
 use Rattle.rules.specs.Listing.{Rest, tickLine, tickLines, onward}
 use Rattle.promises.specs.Unchanged.{step-same}
 use Rattle.promises.specs.Begin.{peel, both-done}
@@ -52,7 +52,8 @@ record Timed (e : Record) (m : Moment) : Type 0 where
   reads : (r : Reading) → placedRead r e ≡ eventRead r e
 
 -- .. of a thread
-thread-again : (s z : State) (m : Moment) (i : ℕ) → z .count ≡ s .count → momentAnswer z m ≡ Done → first (momentAnswer s m) (threadAnswer s i) ≡ Done → first (momentAnswer z m) (threadAnswer z i) ≡ Done
+thread-again : (s z : State) (m : Moment) (i : ℕ) → z .count ≡ s .count → momentAnswer z m ≡ Done → first (momentAnswer s m) (threadAnswer s i) ≡ Done
+    → first (momentAnswer z m) (threadAnswer z i) ≡ Done
 thread-again s z m i c h k = ap (λ a. first a (threadAnswer z i)) h ∙ ap (λ (n : ℕ). cond (ltb i n) Done (Refused 8)) c ∙ both-done (momentAnswer s m) (threadAnswer s i) k .1
 
 arrival-timed : (m : Moment) (i : ℕ) → Timed (Arrival m i) m
@@ -146,19 +147,27 @@ module _ (r : Reading) (e : Record) (d : ℕ) (due : ticksDue r e ≡ suc d) whe
       ∙ ap (λ (x : State). atItsMoment x e) (sym (steps-first d (r .state)))
       ∙ ap (λ (n : ℕ). atItsMoment (stateAfter n (r .state)) e) (sym (facts .2))
 
-  read-before : recordRead r e ≡ readAs (eventOf (r .state) e .answer) (withState r (eventOf (r .state) e .state)) r
+  -- the reading once it is applied
+  abbrev applied : Reading
+  applied = withState r (eventOf (r .state) e .state)
+
+  read-before : recordRead r e ≡ readAs (eventOf (r .state) e .answer) applied r
   unfolding recordRead eventRead
   read-before = rw (facts .0, t .reads r, facts .1)
 
-  read-after : recordRead after-tick e ≡ readAs (eventOf (r .state) e .answer) (withState r (eventOf (r .state) e .state)) after-tick
+  read-after : recordRead after-tick e ≡ readAs (eventOf (r .state) e .answer) applied after-tick
   unfolding recordRead eventRead
   read-after = rw (z-place, t .reads after-tick, z-before, same-event)
 
   -- the listing goes on alike
-  pub onward-after : (rest : Rest) (b n : ℕ) (s : List ℕ) → onward (recordRead after-tick e .answer) rest (recordRead after-tick e .reading) b n s ≡ onward (recordRead r e .answer) rest (recordRead r e .reading) b n s
+  pub onward-after : (rest : Rest) (b n : ℕ) (s : List ℕ)
+      → onward (recordRead after-tick e .answer) rest (recordRead after-tick e .reading) b n s ≡ onward (recordRead r e .answer) rest (recordRead r e .reading) b n s
   onward-after rest b n s = rw (read-before, read-after) (go (eventOf (r .state) e .answer))
     where
-      go : (a : Answer) → onward (readAs a (withState r (eventOf (r .state) e .state)) after-tick .answer) rest (readAs a (withState r (eventOf (r .state) e .state)) after-tick .reading) b n s ≡ onward (readAs a (withState r (eventOf (r .state) e .state)) r .answer) rest (readAs a (withState r (eventOf (r .state) e .state)) r .reading) b n s
+      on : Read → List ℕ
+      on x = onward (x .answer) rest (x .reading) b n s
+
+      go : (a : Answer) → on (readAs a applied after-tick) ≡ on (readAs a applied r)
       go Done = refl
       go (Refused k) = refl
 
