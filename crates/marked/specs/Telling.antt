@@ -24,6 +24,14 @@ goes-on-later = example "goes-on-later"
     (shown (tableOf 2 1 (row 0 1 2 ∷ [])) (arrive 0 ∷ arrive 0 ∷ step ∷ complete 0 ∷ []))
     (facts 1 0 true false ∷ thread Contending 1 (pos 2) (pos 4) ∷ [])
 
+-- Step 1: a completion with a job waiting that sets E to W + u × P would pull the deadline back from 10 to 5.
+abbrev goes-on-greater : Example
+goes-on-greater = example "goes-on-greater"
+    (shown (tableOf 10 3 (row 1 5 4 ∷ row 0 4 3 ∷ row 1 1 10 ∷ []))
+    (arrive 1 ∷ arrive 2 ∷ step ∷ arrive 2 ∷ step ∷ complete 1 ∷ step ∷ complete 2 ∷ []))
+    (facts 3 2 true false ∷ thread Inactive 0 (pos 0) (pos 0) ∷ thread NonContending 0 (pos 20) (pos 24)
+    ∷ thread Contending 1 (minus 5) (pos 10) ∷ [])
+
 -- Step 1: W ≥ u × t for W > u × t would make this thread non-contending.
 abbrev ends-at-equality : Example
 ends-at-equality = example "ends-at-equality"
@@ -237,14 +245,6 @@ drop-brings-no-leaving = example "drop-brings-no-leaving"
     (arrive 0 ∷ arrive 1 ∷ step ∷ step ∷ complete 0 ∷ step ∷ step ∷ drop 1 ∷ []))
     (facts 4 1 false false ∷ thread NonContending 0 (pos 20) (pos 20) ∷ thread Contending 1 (pos 20) (pos 20) ∷ [])
 
--- Step 1 again: a completion with a job waiting that sets E to W + u × P would pull the deadline back from 10 to 5.
-abbrev goes-on-greater : Example
-goes-on-greater = example "goes-on-greater"
-    (shown (tableOf 10 3 (row 1 5 4 ∷ row 0 4 3 ∷ row 1 1 10 ∷ []))
-    (arrive 1 ∷ arrive 2 ∷ step ∷ arrive 2 ∷ step ∷ complete 1 ∷ step ∷ complete 2 ∷ []))
-    (facts 3 2 true false ∷ thread Inactive 0 (pos 0) (pos 0) ∷ thread NonContending 0 (pos 20) (pos 24)
-    ∷ thread Contending 1 (minus 5) (pos 10) ∷ [])
-
 -- ---- refusals at a moment
 -- two threads that take turns, each in an application of its own
 abbrev sharing : Table
@@ -393,7 +393,7 @@ before-the-ticks = example "before-the-ticks"
     ∷ entries (bytes "tick thread app deadline virtual\n0 - - - -\nrefused 12 at 28\n")
     ∷ entries (bytes "tick thread app deadline virtual\nrefused 8 at 20\n") ∷ [])
 
--- Traces: the ticks before a completion that is refused 9 stay listed, and nothing is read after it.
+-- Traces: the ticks before a completion that is refused 10 or 9 stay listed, and nothing is read after it.
 abbrev ticks-stay-listed : Example
 ticks-stay-listed = example "ticks-stay-listed"
     (entries (listing (smallTable ++ arrivalRecord 1 0 ++ completionRecord 1 0 ++ runRecord 9))
@@ -415,12 +415,15 @@ negative-listed = example "negative-listed"
     ++ arrivalRecord 0 0 ++ arrivalRecord 0 1 ++ runRecord 3)) ∷ [])
     (entries (bytes "tick thread app deadline virtual\n0 0 1 10 10\n1 0 1 20 20\n2 1 0 30 -5\nend 3\n") ∷ [])
 
--- a reading that has come to the events
+-- the schedule of that table, and a reading that has come to its events
+abbrev small-state : State
+small-state = begin (tableOf 1 1 (row 0 1 1 ∷ []))
+
 abbrev small-reading : Reading
 small-reading = record {
   table = record { q = 1; threads = 1; rows = row 0 1 1 ∷ [] };
   rows = 1;
-  state = begin (tableOf 1 1 (row 0 1 1 ∷ []));
+  state = small-state;
 }
 
 -- Traces: a refused record gives back the reading before the ticks that were run for it.
@@ -437,18 +440,16 @@ read-to x = says (x .answer) ∷ number (x .at) ∷ number (x .reading .state .c
 abbrev passed-to : Answered → List Seen
 passed-to x = says (x .answer) ∷ number (x .state .clock .0) ∷ []
 
-abbrev small-state : State
-small-state = begin (tableOf 1 1 (row 0 1 1 ∷ []))
-
 -- Inputs: the answer, the byte that it is given at, and the clock of the reading up to there. An input read to its end; one
--- whose last record is refused at its moment, after two ticks that are not kept; one that ends before its row, and inside it.
+-- with a second completion; one whose last record is refused at its moment, after two ticks that are not kept; one that ends
+-- before its row, inside it, and inside an event.
 abbrev inputs-read : Example
 inputs-read = example "inputs-read"
     (read-to (readInput (smallTable ++ arrivalRecord 0 0 ++ runRecord 2))
     ++ read-to (readInput (smallTable ++ arrivalRecord 1 0 ++ completionRecord 3 0 ++ completionRecord 3 0 ++ runRecord 9))
     ++ read-to (readInput (smallTable ++ runRecord 1 ++ completionRecord 3 0))
     ++ read-to (readInput (headRecord 1 1)) ++ read-to (readInput (headRecord 1 1 ++ two 10 ++ two 2))
-    ++ read-to (readInput (smallTable ++ two 8 ++ two 3)) ++ [])
+    ++ read-to (readInput (smallTable ++ two 8 ++ two 3)))
     (number 0 ∷ number 38 ∷ number 2 ∷ number 9 ∷ number 40 ∷ number 3 ∷ number 9 ∷ number 28 ∷ number 1
     ∷ number 14 ∷ number 8 ∷ number 0 ∷ number 14 ∷ number 8 ∷ number 0 ∷ number 14 ∷ number 20 ∷ number 0 ∷ [])
 
@@ -462,6 +463,7 @@ passes = example "passes"
 pub telling : List Example
 telling =
     goes-on-later
+    ∷ goes-on-greater
     ∷ ends-at-equality
     ∷ earlier-gets-nothing
     ∷ earlier-passed-over
@@ -496,7 +498,6 @@ telling =
     ∷ drop-leaves-head
     ∷ drop-of-one
     ∷ drop-brings-no-leaving
-    ∷ goes-on-greater
     ∷ ten-before-nine
     ∷ nine
     ∷ run-fills-its-part
@@ -525,6 +526,7 @@ pub telling-hold : All Holds telling
 unfolding Holds telling
 telling-hold =
     more {x = goes-on-later} refl (
+    more {x = goes-on-greater} refl (
     more {x = ends-at-equality} refl (
     more {x = earlier-gets-nothing} refl (
     more {x = earlier-passed-over} refl (
@@ -559,7 +561,6 @@ telling-hold =
     more {x = drop-leaves-head} refl (
     more {x = drop-of-one} refl (
     more {x = drop-brings-no-leaving} refl (
-    more {x = goes-on-greater} refl (
     more {x = ten-before-nine} refl (
     more {x = nine} refl (
     more {x = run-fills-its-part} refl (

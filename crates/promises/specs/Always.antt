@@ -4,14 +4,12 @@ use mathlib.Core.Bool.{false}
 use mathlib.Core.List.{List, [], _∷_, _++_}
 use Prim.Native.Nat.{ℕ, zero, suc, _-_, _≤_, _<_}
 use native.Mathlib.Omega.{arith}
-use borrow.Author.Tests.{eqb-false, eqb-true, ltb-true}
-use lib.Dec.{eqb, ltb}
-use lib.Signed.{ltZ}
-use lib.ListN.{length, set}
+use lib.Dec.{ltb}
+use lib.ListN.{set}
 use Rattle.lists.specs.MapTo.{map-same}
 use Rattle.lists.specs.Take.{all-upd, at-upd}
 use Rattle.rules.specs.Limits.{nobody, maxJobs, clockEnd}
-use Rattle.rules.specs.Threads.{Thread, State, blank, at, scaled, isNon}
+use Rattle.rules.specs.Threads.{Thread, State, withRows, blank, at}
 use Rattle.rules.specs.Table.{Table, Answered, done, opening}
 use Rattle.rules.specs.Completion.{completion, afterCompletion}
 use Rattle.rules.specs.Leaving.{leave, gone}
@@ -19,11 +17,12 @@ use Rattle.rules.specs.Arrival.{arrival, arrived}
 use Rattle.rules.specs.Drop.{headOnly, dropped}
 use Rattle.rules.specs.Choice.{chosen, idled}
 use Rattle.rules.specs.Charge.{charged, moved}
-use Rattle.rules.specs.Step.{Stepped, taken, stepped}
+use Rattle.rules.specs.Step.{Stepped, ready, stepped}
 use Rattle.rules.specs.Run.{Ran, stateAfter, ran, passed}
 use Rattle.rules.specs.Calls as calls
 use Rattle.rules.specs.Calls.{Call, apply, after, Given}
 use Rattle.promises.specs.Cases.{by-test, true-false}
+use Rattle.promises.specs.Branches.{by-leaving, by-completion, by-arrival, by-drop, by-step, by-run}
 use Rattle.promises.specs.Good.{Good}
 use Rattle.promises.specs.Tick.{Alike, leads-alike, Chosen, charge-rows, charge-alike, idle-rows}
 use Rattle.promises.specs.Events.{completing-rows, arrive-rows, arrive-left, drop-rows, head-alike, head-ahead}
@@ -54,18 +53,12 @@ grant-good {z} y h c ch = let s = y .sound in record {
   left = λ c. absurd (true-false (sym c));
 }
 
-taken-good : {z : State} → Ready z → z .clock .0 < clockEnd → Good (taken z (chosen z) .state)
-taken-good {z} y h =
-    by-test (λ (r : Stepped). Good (r .state)) (eqb (chosen z) nobody)
-    (λ e. idle-good y h (eqb-true (chosen z) nobody e))
-    (λ e. grant-good y h (chosen z) (chosen-leads y (eqb-false (chosen z) nobody e)))
-
-pub step-good : {s : State} → Good s → Good (stepped s .state)
-unfolding stepped
+step-good : {s : State} → Good s → Good (stepped s .state)
 step-good {s} g =
-    by-test (λ (r : Stepped). Good (r .state)) (eqb (s .clock .0) clockEnd)
-    (λ _. g)
-    (λ e. taken-good (ready-ready g) (before-end g (eqb-false (s .clock .0) clockEnd e)))
+    let y = ready-ready g in
+    by-step s (λ (r : Stepped). Good (r .state)) (λ _. g)
+    (λ t e. idle-good y (before-end g t) e)
+    (λ t n. grant-good y (before-end g t) (chosen (ready s)) (chosen-leads y n))
 
 pub steps-good : (n : ℕ) {s : State} → Good s → Good (stateAfter n s)
 unfolding stateAfter
@@ -73,14 +66,7 @@ steps-good zero g = g
 steps-good (suc n) g = step-good (steps-good n g)
 
 run-good : {s : State} (to : ℕ) (row : List ℕ) → Good s → Good (ran s to row .result .state)
-unfolding ran
-run-good {s} to row g =
-    by-test P (ltb to (s .clock .0)) (λ _. g)
-    (λ _. by-test P (ltb clockEnd to) (λ _. g)
-    (λ _. by-test P (ltb (length row) (to - s .clock .0)) (λ _. g) (λ _. steps-good (to - s .clock .0) g)))
-  where
-    P : Ran → Type 0
-    P r = Good (r .result .state)
+run-good {s} to row g = by-run s (λ (r : Ran). Good (r .result .state)) to row (λ _. g) (steps-good (to - s .clock .0) g)
 
 -- ---- the events
 abbrev GoodA : Answered → Type 0
@@ -88,11 +74,11 @@ GoodA r = Good (r .state)
 
 -- leaving changes no number of jobs
 pub same-jobs : (s : State) (i : ℕ) → at (gone s .threads) i .jobs ≡ at (s .threads) i .jobs
-unfolding gone leave
+unfolding gone
 same-jobs s i = by-test (λ (z : State). at (z .threads) i .jobs ≡ at (s .threads) i .jobs) (s .closed) (λ _. refl) (λ _. map-same (λ (x : Thread). x .jobs) (leave (s .clock .0)) one (s .count) (s .threads) i blank)
   where
     one : (x : Thread) → leave (s .clock .0) x .jobs ≡ x .jobs
-    one x = by-test (λ (y : Thread). y .jobs ≡ x .jobs) (isNon (x .phase)) (λ _. by-test (λ (y : Thread). y .jobs ≡ x .jobs) (ltZ (scaled x (s .clock .0)) (x .w .0)) (λ _. refl) (λ _. refl)) (λ _. refl)
+    one x = by-leaving (λ (y : Thread). y .jobs ≡ x .jobs) (s .clock .0) x refl (λ _ _. refl)
 
 arrived-good : {s : State} (i : ℕ) → Good s → i < s .count → at (s .threads) i .jobs < maxJobs → Good (arrived (gone s) i)
 arrived-good {s} i g h j =
@@ -107,38 +93,28 @@ arrived-good {s} i g h j =
     }
 
 arrival-good : {s : State} (i : ℕ) → Good s → Good (arrival s i .state)
-unfolding arrival
-arrival-good {s} i g =
-    by-test GoodA (ltb i (s .count))
-    (λ h. by-test GoodA (ltb (at (s .threads) i .jobs) maxJobs) (λ j. arrived-good i g (ltb-true i (s .count) h) (ltb-true _ _ j)) (λ _. g))
-    (λ _. g)
+arrival-good {s} i g = by-arrival s GoodA i (λ _. g) (arrived-good i g)
 
-completed-good : {s : State} → Good s → s .had < s .count → s .closed ≡ false → s .completed ≡ false → Good (afterCompletion s (s .had))
+completed-good : {s : State} (i : ℕ) → Good s → i < s .count → s .closed ≡ false → s .completed ≡ false → i ≡ s .had → Good (afterCompletion s i)
 unfolding afterCompletion
-completed-good {s} g h c d = record {
+completed-good {s} i g h c d e = rw e (record {
   time = g .time;
   q-max = g .q-max;
-  rows = completing-rows (g .rows) (s .had) (g .head-start c d h);
+  rows = completing-rows (g .rows) (s .had) (g .head-start c d (rw e at h));
   head-start = λ _ d. absurd (true-false d);
   left = λ e. absurd (true-false (sym e ∙ c));
-}
+})
 
 completion-good : {s : State} (i : ℕ) → Good s → Good (completion s i .state)
-unfolding completion
-completion-good {s} i g =
-    by-test GoodA (ltb i (s .count))
-    (λ h. by-test GoodA (s .closed) (λ _. g)
-    (λ c. by-test GoodA (eqb i (s .had)) (λ e. by-test GoodA (s .completed) (λ _. g) (λ d. rw (eqb-true i (s .had) e) (completed-good g (rw (eqb-true i (s .had) e) at (ltb-true i (s .count) h)) c d))) (λ _. g)))
-    (λ _. g)
+completion-good {s} i g = by-completion s GoodA i (λ _. g) (completed-good i g)
 
 drop-good : {s : State} (i : ℕ) → Good s → Good (dropped s i .state)
-unfolding dropped
-drop-good {s} i g = by-test GoodA (ltb i (s .count)) (λ h. into (ltb-true i (s .count) h)) (λ _. g)
+drop-good {s} i g = by-drop s GoodA i (λ _. g) into
   where
     alike : (j : ℕ) → Alike (at (s .threads) j) (at (set (s .threads) i (headOnly (at (s .threads) i))) j)
     alike j = at-upd {P = Alike (at (s .threads) j)} headOnly (head-alike (at (s .threads) j)) (s .threads) i j blank (record { share-same = refl; phase-same = refl; e-same = refl })
 
-    into : i < s .count → GoodA (done (record { threads = set (s .threads) i (headOnly (at (s .threads) i)); count = s .count; had = s .had; q = s .q; clock = s .clock; completed = s .completed; closed = s .closed }))
+    into : i < s .count → GoodA (done (withRows s (set (s .threads) i (headOnly (at (s .threads) i)))))
     into h = record {
       time = g .time;
       q-max = g .q-max;
@@ -169,7 +145,7 @@ pub given-opening : (usual : ℕ) (t : Table) → Given (opening usual t .state)
 unfolding after
 given-opening usual t = record { usual = usual; table = t; calls = []; came = refl }
 
-pub after-more : (cs : List Call) (s : State) (c : Call) → after s (cs ++ (c ∷ [])) ≡ apply (after s cs) c
+after-more : (cs : List Call) (s : State) (c : Call) → after s (cs ++ (c ∷ [])) ≡ apply (after s cs) c
 unfolding after
 after-more [] s c = refl
 after-more (d ∷ cs) s c = after-more cs (apply s d) c

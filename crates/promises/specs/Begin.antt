@@ -20,7 +20,8 @@ use Rattle.promises.specs.Good.{share, deficit, Fine, Rows, Good}
 use Rattle.promises.specs.Tick.{late-claims}
 
 -- ---- what is not refused
-peel : (b : Bool) (k : ℕ) (a : Answer) → cond b (Refused k) a ≡ Done → (b ≡ false) × (a ≡ Done)
+-- one test passed
+pub peel : (b : Bool) (k : ℕ) (a : Answer) → cond b (Refused k) a ≡ Done → (b ≡ false) × (a ≡ Done)
 peel true k a e = let z : _≡_ {A = ℕ} 0 1 = cc in absurd (omega arith)
 peel false k a e = (refl, e)
 
@@ -37,7 +38,7 @@ pub record Admitted (usual q before : ℕ) (x : Row) : Type 0 where
   pub long : q ≤ x .share * meant usual (x .period)
   pub sum-max : before + x .share ≤ q
 
-pub row-admitted : (usual q before : ℕ) (x : Row) → rowAnswer usual q before x ≡ Done → Admitted usual q before x
+row-admitted : (usual q before : ℕ) (x : Row) → rowAnswer usual q before x ≡ Done → Admitted usual q before x
 unfolding rowAnswer
 row-admitted usual q before x e =
     let p3 = peel (ltb maxApp (x .app)) 3 _ e in
@@ -58,6 +59,7 @@ row-admitted usual q before x e =
 
 pub record Headed (q n : ℕ) : Type 0 where
   pub q-max : q ≤ maxQ
+  pub some : n ≡ 0 → ⊥
   pub few : n ≤ maxThreads
 
 pub head-admitted : (q n : ℕ) → headAnswer q n ≡ Done → Headed q n
@@ -67,7 +69,7 @@ head-admitted q n e =
     let p1' = peel (ltb maxQ q) 1 _ (p1 .1) in
     let p2 = peel (eqb n 0) 2 _ (p1' .1) in
     let p2' = peel (ltb maxThreads n) 2 Done (p2 .1) in
-    record { q-max = ltb-false maxQ q (p1' .0); few = ltb-false maxThreads n (p2' .0) }
+    record { q-max = ltb-false maxQ q (p1' .0); some = eqb-false n 0 (p2 .0); few = ltb-false maxThreads n (p2' .0) }
 
 module _ (usual q : ℕ) (rows : List Row) where
   -- each of the first n rows is admitted
@@ -76,7 +78,9 @@ module _ (usual q : ℕ) (rows : List Row) where
   rows-admitted zero e j h = absurd (not-suc-le-zero h)
   rows-admitted (suc n) e j h = go (both-done (rowsAnswer usual q rows n) _ e) (λ f. rows-admitted n f j) (ℕ-discrete j n)
     where
-      go : (rowsAnswer usual q rows n ≡ Done) × (rowAnswer usual q (sharesTo rows n) (rowAt rows n) ≡ Done) → (rowsAnswer usual q rows n ≡ Done → j < n → Admitted usual q (sharesTo rows j) (rowAt rows j)) → Dec (j ≡ n) → Admitted usual q (sharesTo rows j) (rowAt rows j)
+      go : (rowsAnswer usual q rows n ≡ Done) × (rowAnswer usual q (sharesTo rows n) (rowAt rows n) ≡ Done)
+          → (rowsAnswer usual q rows n ≡ Done → j < n → Admitted usual q (sharesTo rows j) (rowAt rows j)) → Dec (j ≡ n)
+          → Admitted usual q (sharesTo rows j) (rowAt rows j)
       go p ih (yes e) = subst (λ (k : ℕ). Admitted usual q (sharesTo rows k) (rowAt rows k)) (sym e) (row-admitted usual q (sharesTo rows n) (rowAt rows n) (p .1))
       go p ih (no f) = ih (p .0) (omega arith)
 
@@ -86,7 +90,7 @@ module _ (usual q : ℕ) (rows : List Row) where
   shares-within (suc n) e = rows-admitted (suc n) e n (omega arith) .sum-max
 
   -- ---- the threads that it begins with
-  pub opened-length : (n : ℕ) → length (openedTo usual rows n) ≡ maxThreads
+  opened-length : (n : ℕ) → length (openedTo usual rows n) ≡ maxThreads
   unfolding openedTo
   opened-length zero = length-replicate maxThreads blank
   opened-length (suc n) = length-set (openedTo usual rows n) n _ ∙ opened-length n
@@ -96,13 +100,15 @@ module _ (usual q : ℕ) (rows : List Row) where
   opened-at zero l j h = absurd (not-suc-le-zero h)
   opened-at (suc n) l j h = go (opened-at n (omega arith) j) (ℕ-discrete j n)
     where
-      go : (j < n → at (openedTo usual rows n) j ≡ opened usual (rowAt rows j)) → Dec (j ≡ n) → at (set (openedTo usual rows n) n (opened usual (rowAt rows n))) j ≡ opened usual (rowAt rows j)
+      go : (j < n → at (openedTo usual rows n) j ≡ opened usual (rowAt rows j)) → Dec (j ≡ n)
+          → at (set (openedTo usual rows n) n (opened usual (rowAt rows n))) j ≡ opened usual (rowAt rows j)
       go ih (yes e) = subst (λ (k : ℕ). at (set (openedTo usual rows n) n (opened usual (rowAt rows n))) k ≡ opened usual (rowAt rows k)) (sym e) (getD-set-same (openedTo usual rows n) n _ blank (omega (arith, opened-length n)))
       go ih (no f) = getD-set-other (openedTo usual rows n) n j _ blank f ∙ ih (omega arith)
 
   module _ (n : ℕ) (few : n ≤ maxThreads) where
     -- a sum over them, row by row
-    opened-sum : (f : Thread → ℕ) (g : ℕ → ℕ) → g 0 ≡ 0 → ((j : ℕ) → j < n → g (suc j) ≡ g j + f (opened usual (rowAt rows j))) → (i : ℕ) → i ≤ n → sumBy f (take i (openedTo usual rows n)) ≡ g i
+    opened-sum : (f : Thread → ℕ) (g : ℕ → ℕ) → g 0 ≡ 0 → ((j : ℕ) → j < n → g (suc j) ≡ g j + f (opened usual (rowAt rows j))) → (i : ℕ) → i ≤ n
+        → sumBy f (take i (openedTo usual rows n)) ≡ g i
     opened-sum f g z s zero l = sum-none f (openedTo usual rows n) ∙ sym z
     opened-sum f g z s (suc i) l =
         subst (λ (k : ℕ). sumBy f (take k (openedTo usual rows n)) ≡ g (suc i)) (add-one i)

@@ -44,7 +44,8 @@ outside : {i n : ℕ} → i < n → n ≤ maxThreads → nobody ≡ i → ⊥
 outside h k e = omega arith
 
 -- before the thread's first job
-pub first-books : {i : ℕ} {s : State} → s .count ≤ maxThreads → s .had ≡ nobody → i < s .count → at (s .threads) i .phase ≡ Inactive → at (s .threads) i .jobs ≡ 0 → Books (s .q) (at (s .threads) i .share) (at (s .threads) i .period) i noJobs s
+pub first-books : {i : ℕ} {s : State} → s .count ≤ maxThreads → s .had ≡ nobody → i < s .count → at (s .threads) i .phase ≡ Inactive
+    → at (s .threads) i .jobs ≡ 0 → Books (s .q) (at (s .threads) i .share) (at (s .threads) i .period) i noJobs s
 first-books {i} {s} few had inside rests empty = record {
   q-same = refl;
   inside = inside;
@@ -154,7 +155,8 @@ module _ {q u p i : ℕ} {g : Account} {z : State} (k : Standing q u p i g z) wh
       js = g .waiting ++ (record { arrival = z .clock .0; length = 0 } ∷ [])
 
 -- ---- a completion by thread j
-pub completing-agrees : {q u p i : ℕ} {g h : Account} (t n : ℕ) (xs : List Thread) (j : ℕ) → i < length xs → Agrees q u p g (at xs i) → (j ≡ i → Completes q u p h (at xs j)) → Agrees q u p (cond (eqb j i) h g) (at (completing t n j (at xs j) xs) i)
+pub completing-agrees : {q u p i : ℕ} {g h : Account} (t n : ℕ) (xs : List Thread) (j : ℕ) → i < length xs → Agrees q u p g (at xs i)
+    → (j ≡ i → Completes q u p h (at xs j)) → Agrees q u p (cond (eqb j i) h g) (at (completing t n j (at xs j) xs) i)
 unfolding completing gives
 completing-agrees {q} {u} {p} {i} {g} {h} t n xs j among a own =
     by-test Kept (ltb 1 (x .jobs)) (λ m. put (goesOn x) (λ e. own e .to-next m))

@@ -19,7 +19,8 @@ either P true x y f g = f tt
 either P false x y f g = g tt
 
 -- .. on both sides of a statement
-either₂ : (P : ℕ → ℕ → Type 0) (b c : Bool) (x y z v : ℕ) → (T b → T c → P x z) → (T b → T (not c) → P x v) → (T (not b) → T c → P y z) → (T (not b) → T (not c) → P y v) → P (cond b x y) (cond c z v)
+either₂ : (P : ℕ → ℕ → Type 0) (b c : Bool) (x y z v : ℕ) → (T b → T c → P x z) → (T b → T (not c) → P x v) → (T (not b) → T c → P y z)
+    → (T (not b) → T (not c) → P y v) → P (cond b x y) (cond c z v)
 either₂ P true true x y z v f g h i = f tt tt
 either₂ P true false x y z v f g h i = g tt tt
 either₂ P false true x y z v f g h i = h tt tt
@@ -118,7 +119,8 @@ module _ (t k n : ℕ) (x : Thread) where
   unfolding claim idleShare
   claim-clock h = clock-as t k n (x .share) (x .phase) (x .w .0) (x .e .0) h
 
-  pub claim-gains : (r : ℕ) → T (contends x) → T (early k n (x .share) (x .e .0)) → up (x .w .0) + dn (x .e .0) + r ≤ up (x .e .0) + dn (x .w .0) → claim t k n (gains r x) + k * r ≤ claim t k n x
+  pub claim-gains : (r : ℕ) → T (contends x) → T (early k n (x .share) (x .e .0)) → up (x .w .0) + dn (x .e .0) + r ≤ up (x .e .0) + dn (x .w .0)
+      → claim t k n (gains r x) + k * r ≤ claim t k n x
   unfolding claim
   claim-gains r c b f = go (x .phase) c
     where
@@ -154,7 +156,8 @@ module _ (t k n : ℕ) (x : Thread) where
       go Contending c = to-non t k n (x .share) (x .w .0) (x .e .0) e h
       go NonContending c = absurd c
 
-  pub claim-freed : (w e : ℤ) (a : ℕ) → T (contends x) → T (early k n (x .share) (x .e .0)) → k * t ≤ n → up (x .w .0) + a ≡ x .share * t + dn (x .w .0) → claim t k n (with x Inactive w e) + k * a ≤ claim t k n x
+  pub claim-freed : (w e : ℤ) (a : ℕ) → T (contends x) → T (early k n (x .share) (x .e .0)) → k * t ≤ n
+      → up (x .w .0) + a ≡ x .share * t + dn (x .w .0) → claim t k n (with x Inactive w e) + k * a ≤ claim t k n x
   unfolding claim
   claim-freed w e a c b h s = go (x .phase) c
     where
@@ -189,7 +192,8 @@ module _ (t k n : ℕ) (x : Thread) where
       go NonContending c = omega arith
 
 -- .. and a contending one, at its own deadline, at least the tick that fits
-pub own-claim : (t n r : ℕ) (x : Thread) → T (contends x) → up (x .e .0) ≡ n → dn (x .e .0) ≡ 0 → up (x .w .0) + dn (x .e .0) + r ≤ up (x .e .0) + dn (x .w .0) → x .share * r ≤ claim t (x .share) n x
+pub own-claim : (t n r : ℕ) (x : Thread) → T (contends x) → up (x .e .0) ≡ n → dn (x .e .0) ≡ 0
+    → up (x .w .0) + dn (x .e .0) + r ≤ up (x .e .0) + dn (x .w .0) → x .share * r ≤ claim t (x .share) n x
 unfolding claim
 own-claim t n r x c p z f = go (x .phase) c
   where

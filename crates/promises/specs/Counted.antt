@@ -6,24 +6,25 @@ use mathlib.Core.List.{List, [], _∷_, _++_, map, map-append, append-assoc, app
 use Prim.Native.Nat.{ℕ, zero, suc, _+_, _-_, _<_}
 use native.Mathlib.Nat.{not-suc-le-zero}
 use native.Mathlib.Omega.{arith}
-use borrow.Author.Tests.{eqb-true, eqb-false, ltb-true}
-use lib.Dec.{T, eqb, ltb}
+use borrow.Author.Tests.{eqb-true}
+use lib.Dec.{T, eqb}
 use lib.ListN.{length, take}
 use Rattle.lists.specs.Sum.{sumBy, sum-append}
 use Rattle.lists.specs.All.{All, none, more, all-append}
-use Rattle.rules.specs.Limits.{nobody, clockEnd}
+use Rattle.rules.specs.Limits.{nobody}
 use Rattle.rules.specs.Threads.{State, at, contends}
 use Rattle.rules.specs.Table.{Answer, Done, Refused, Answered}
 use Rattle.rules.specs.Completion.{completion}
 use Rattle.rules.specs.Arrival.{arrival}
 use Rattle.rules.specs.Drop.{dropped}
 use Rattle.rules.specs.Choice.{chosen}
-use Rattle.rules.specs.Step.{Stepped, ready, stepped}
+use Rattle.rules.specs.Step.{Stepped, ready}
 use Rattle.rules.specs.Run.{stateAfter, ran}
 use Rattle.rules.specs.Calls as calls
 use Rattle.rules.specs.Calls.{Call, apply}
 use Rattle.rules.specs.History.{Happening, completed, arrived, dropped-to-head, granted, idle-tick, ifDone, tickAs, tickOf, ticksOf, runAs, happens, history, Job, Finished, Account, figureOf, longer, completeHead, withWaiting, accountOf, account, completionsOf, grantsTo}
 use Rattle.promises.specs.Cases.{by-test}
+use Rattle.promises.specs.Branches.{by-completion, by-step}
 use Rattle.promises.specs.Good.{Good}
 use Rattle.promises.specs.Row.{has-job}
 use Rattle.promises.specs.Keep.{fine-at}
@@ -34,10 +35,10 @@ use Rattle.promises.specs.Ledger.{ticks-books, call-books}
 
 -- ---- of an account alone
 -- the moments of its completed jobs, and the ticks in all its jobs
-abbrev pub momentsIn : Account → List ℕ
+abbrev momentsIn : Account → List ℕ
 momentsIn g = map (λ (f : Finished). f .completion) (g .finished)
 
-abbrev pub ticksIn : Account → ℕ
+abbrev ticksIn : Account → ℕ
 ticksIn g = sumBy (λ (f : Finished). f .job .length) (g .finished) + sumBy (λ (j : Job). j .length) (g .waiting)
 
 -- only the job at the head has had ticks
@@ -53,7 +54,7 @@ Fed i g (dropped-to-head k t) = Unit {0}
 Fed i g (granted k t e) = k ≡ i → 0 < length (g .waiting)
 Fed i g (idle-tick t) = Unit {0}
 
-abbrev pub AllFed : ℕ → ℕ → ℕ → Account → List Happening → Type 0
+abbrev AllFed : ℕ → ℕ → ℕ → Account → List Happening → Type 0
 AllFed q u i g [] = Unit {0}
 AllFed q u i g (h ∷ hs) = Fed i g h × AllFed q u i (accountOf q u i g h) hs
 
@@ -188,10 +189,8 @@ other-fed q u i g (Refused n) h f = tt
 
 module _ {q u p i : ℕ} where
   tick-fed : {g : Account} {s : State} → Good s → Books q u p i g s → AllFed q u i g (tickOf s)
-  unfolding tickOf stepped
-  tick-fed {g} {s} good b =
-      by-test P (eqb (s .clock .0) clockEnd) (λ _. tt)
-      (λ _. by-test P (eqb (chosen (ready s)) nobody) (λ _. (tt, tt)) (λ e. (runs (eqb-false (chosen (ready s)) nobody e), tt)))
+  unfolding tickOf
+  tick-fed {g} {s} good b = by-step s P (λ _. tt) (λ _ _. (tt, tt)) (λ _ n. (runs n, tt))
     where
       P : Stepped → Type 0
       P r = AllFed q u i g (tickAs (r .outcome) s)
@@ -209,18 +208,13 @@ module _ {q u p i : ℕ} where
   ticks-fed (suc n) {g} {s} good b = fed-append q u i (ticksOf n s) (tickOf (stateAfter n s)) g (ticks-fed n good b) (tick-fed (steps-good n good) (ticks-books n good b))
 
   complete-fed : (j : ℕ) {g : Account} {s : State} → Good s → Books q u p i g s → AllFed q u i g (ifDone (completion s j .answer) (completed j (s .clock .0)))
-  unfolding completion
-  complete-fed j {g} {s} good b =
-      by-test P (ltb j (s .count))
-      (λ h. by-test P (s .closed) (λ _. tt)
-      (λ c. by-test P (eqb j (s .had)) (λ e. by-test P (s .completed) (λ _. tt) (λ d. (runs c d (ltb-true j (s .count) h) (eqb-true j (s .had) e), tt))) (λ _. tt)))
-      (λ _. tt)
+  complete-fed j {g} {s} good b = by-completion s P j (λ _. tt) (λ h c d e. (runs h c d e, tt))
     where
       P : Answered → Type 0
       P r = AllFed q u i g (ifDone (r .answer) (completed j (s .clock .0)))
 
-      runs : s .closed ≡ false → s .completed ≡ false → j < s .count → j ≡ s .had → j ≡ i → 0 < length (g .waiting)
-      runs c d h e o =
+      runs : j < s .count → s .closed ≡ false → s .completed ≡ false → j ≡ s .had → j ≡ i → 0 < length (g .waiting)
+      runs h c d e o =
           let l = good .head-start c d (omega arith) in
           let k : T (contends (at (s .threads) i)) = subst (λ (m : ℕ). T (contends (at (s .threads) m))) (sym e ∙ o) (l .runs) in
           omega (arith, has-job (s .q) (s .clock .0) (at (s .threads) i) (fine-at (good .rows) i (b .inside)) k, b .agrees .count)

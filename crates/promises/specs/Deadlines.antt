@@ -20,7 +20,7 @@ abbrev pub NotAfter : Thread → Thread → Type 0
 NotAfter x y = up (x .e .0) * y .share + dn (y .e .0) * x .share ≤ up (y .e .0) * x .share + dn (x .e .0) * y .share
 
 -- "earlier" is the first of the comparison's two tests
-pub sooner-is : (x y : Thread) → sooner x y ≡ ltZ (x .e .0 *ℤ pos (y .share)) (y .e .0 *ℤ pos (x .share))
+sooner-is : (x y : Thread) → sooner x y ≡ ltZ (x .e .0 *ℤ pos (y .share)) (y .e .0 *ℤ pos (x .share))
 sooner-is x y = go (ltZ (x .e .0 *ℤ pos (y .share)) (y .e .0 *ℤ pos (x .share))) (ltZ (y .e .0 *ℤ pos (x .share)) (x .e .0 *ℤ pos (y .share)))
   where
     go : (a b : Bool) → isEarlier (cond a Earlier (cond b Later Equal)) ≡ a
@@ -29,17 +29,17 @@ sooner-is x y = go (ltZ (x .e .0 *ℤ pos (y .share)) (y .e .0 *ℤ pos (x .shar
     go false false = refl
 
 module _ (x y : Thread) where
-  pub sooner-yes : sooner x y ≡ true → NotAfter x y
+  sooner-yes : sooner x y ≡ true → NotAfter x y
   sooner-yes t = omega (arith, ltZ-true (x .e .0 *ℤ pos (y .share)) (y .e .0 *ℤ pos (x .share)) (sym (sooner-is x y) ∙ t), mul-up (x .e .0) (y .share), mul-dn (x .e .0) (y .share), mul-up (y .e .0) (x .share), mul-dn (y .e .0) (x .share))
 
-  pub sooner-no : sooner x y ≡ false → NotAfter y x
+  sooner-no : sooner x y ≡ false → NotAfter y x
   sooner-no t = omega (arith, ltZ-false (x .e .0 *ℤ pos (y .share)) (y .e .0 *ℤ pos (x .share)) (sym (sooner-is x y) ∙ t), mul-up (x .e .0) (y .share), mul-dn (x .e .0) (y .share), mul-up (y .e .0) (x .share), mul-dn (y .e .0) (x .share))
 
 -- fractions: a / u ≤ b / v and b / v ≤ c / s, so a / u ≤ c / s; each number as a difference
 pub frac : (a a' u b b' v c c' s : ℕ) → 0 < v → a * v + b' * u ≤ b * u + a' * v → b * s + c' * v ≤ c * v + b' * s → a * s + c' * u ≤ c * u + a' * s
 frac a a' u b b' v c c' s h p q = le-of-mul-le-mul-left {k = v} (omega (arith, mul-le-mul-left s p, mul-le-mul-left u q)) h
 
-pub notAfter-trans : (x y z : Thread) → 0 < y .share → NotAfter x y → NotAfter y z → NotAfter x z
+notAfter-trans : (x y z : Thread) → 0 < y .share → NotAfter x y → NotAfter y z → NotAfter x z
 notAfter-trans x y z h p q = frac (up (x .e .0)) (dn (x .e .0)) (x .share) (up (y .e .0)) (dn (y .e .0)) (y .share) (up (z .e .0)) (dn (z .e .0)) (z .share) h p q
 
 -- ---- `earliest` names a thread that passes the test, or nobody
@@ -63,7 +63,7 @@ earliest-in p (suc i) xs = go (earliest p i xs) (earliest-in p i xs)
         wider f = let h = ih f in (omega (arith, h .0), h .1)
 
 -- ---- .. and none of the first n that pass the test has an earlier deadline
-abbrev pub First : (Thread → Bool) → List Thread → ℕ → ℕ → Type 0
+abbrev First : (Thread → Bool) → List Thread → ℕ → ℕ → Type 0
 First p xs n b = (j : ℕ) → j < n → T (p (at xs j)) → (b ≡ nobody → ⊥) × NotAfter (at xs b) (at xs j)
 
 module _ (p : Thread → Bool) (xs : List Thread) where

@@ -5,15 +5,15 @@ use Prim.Native.Nat.{ℕ, _+_, _*_, _-_, _≤_}
 use native.Mathlib.Omega.{arith}
 use lib.Dec.{T}
 use lib.IntN.{pos, _+ℤ_, _-ℤ_}
-use lib.Signed.{ltZ}
 use Rattle.integers.specs.Parts.{up, dn, add-parts, sub-parts, dn-clip}
-use Rattle.rules.specs.Threads.{Thread, Phase, Inactive, Contending, NonContending, withJobs, scaled, isInactive, isNon, contends, active, idle, loses}
+use Rattle.rules.specs.Threads.{Thread, Phase, Inactive, Contending, NonContending, withJobs, isInactive, active, idle, loses}
 use Rattle.rules.specs.Completion.{goesOn, stays, ends}
 use Rattle.rules.specs.Leaving.{leave}
 use Rattle.rules.specs.Arrival.{arriveAs, arrive}
-use Rattle.rules.specs.Fitting.{fit, postpone}
+use Rattle.rules.specs.Fitting.{fit}
 use Rattle.rules.specs.Charge.{gains}
 use Rattle.promises.specs.Cases.{test}
+use Rattle.promises.specs.Branches.{by-leaving, by-fitting}
 use Rattle.promises.specs.Shares.{idleShare}
 use Rattle.promises.specs.Good.{deficit}
 
@@ -34,16 +34,11 @@ module _ (t : ℕ) (x : Thread) where
   deficit-idle = omega arith
 
   pub deficit-leave : deficit t (leave t x) ≤ deficit t x
-  unfolding leave
-  deficit-leave = test (λ c. deficit t (cond c (cond (ltZ (scaled x t) (x .w .0)) x (idle x)) x) ≤ deficit t x) (isNon (x .phase))
-      (λ _. test (λ c. deficit t (cond c x (idle x)) ≤ deficit t x) (ltZ (scaled x t) (x .w .0)) (λ _. omega arith) (λ _. omega (arith, deficit-idle)))
-      (λ _. omega arith)
+  deficit-leave = by-leaving (λ (y : Thread). deficit t y ≤ deficit t x) t x (omega arith) (λ _ _. omega (arith, deficit-idle))
 
   pub deficit-fit : (room : ℕ) → deficit t (fit room x) ≤ deficit t x
-  unfolding fit deficit
-  deficit-fit room = test (λ c. deficit t (cond c (cond (ltZ (x .e .0 -ℤ x .w .0) (pos room)) (postpone x) x) x) ≤ deficit t x) (contends x)
-      (λ _. test (λ c. deficit t (cond c (postpone x) x) ≤ deficit t x) (ltZ (x .e .0 -ℤ x .w .0) (pos room)) (λ _. omega arith) (λ _. omega arith))
-      (λ _. omega arith)
+  unfolding deficit
+  deficit-fit room = by-fitting (λ (y : Thread). deficit t y ≤ deficit t x) room x (omega arith) (λ _ _. omega arith)
 
   pub deficit-loses : (r : ℕ) → deficit t (loses (pos r) x) ≤ deficit t x + r
   unfolding deficit

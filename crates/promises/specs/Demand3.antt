@@ -5,8 +5,8 @@
 --   strictly earlier than one period of its thread after the time at which a dedicated processor of that thread's share would
 --   have completed the thread's completed jobs up to it, in order. What other threads do cannot take this from it."
 --
--- This file says it; Proved.antt has `demand-3`, which proves it. The last sentence is in the quantifier: the calls are any
--- calls, for any threads, in any order.
+-- This file says it, as `Promised` at its end; Proved.antt has `demand-3`, which proves it. The last sentence is in the
+-- quantifier: the calls are any calls, for any threads, in any order.
 use mathlib.Core.Path.{_≡_}
 use mathlib.Core.List.{List, map}
 use Prim.Native.Nat.{ℕ, _+_, _*_, _<_}
@@ -15,7 +15,7 @@ use lib.Signed.{_≤ℤ_}
 use Rattle.lists.specs.Sum.{sumBy}
 use Rattle.lists.specs.All.{All}
 use Rattle.rules.specs.Threads.{State, at}
-use Rattle.rules.specs.Table.{Table, meant, rowAt, start}
+use Rattle.rules.specs.Table.{Table, Done, meant, rowAt, tableAnswer, start}
 use Rattle.rules.specs.Step.{ready}
 use Rattle.rules.specs.Calls.{Call, after}
 use Rattle.rules.specs.History.{Happening, completed, arrived, dropped-to-head, granted, idle-tick, history, Job, Finished, Account, noJobs, account, completionsOf, grantsTo}
@@ -63,3 +63,7 @@ module _ (usual : ℕ) (t : Table) (cs : List Call) where
     -- nothing is left out: each accepted completion is one of these jobs, and each granted tick is in the length of a job
     pub all-jobs : (i : ℕ) → i < t .threads → map (λ (f : Finished). f .completion) (jobsOf i .finished) ≡ completionsOf i past
     pub all-ticks : (i : ℕ) → i < t .threads → sumBy (λ (f : Finished). f .job .length) (jobsOf i .finished) + sumBy (λ (j : Job). j .length) (jobsOf i .waiting) ≡ grantsTo i past
+
+-- "For every admitted table and every sequence of calls from a fresh start, refused ones among them", whatever 0 stands for
+abbrev pub Promised : Type 0
+Promised = (usual : ℕ) (t : Table) → tableAnswer usual t ≡ Done → (cs : List Call) → Demand3 usual t cs

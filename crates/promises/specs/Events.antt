@@ -27,7 +27,7 @@ use Rattle.promises.specs.Deficit.{deficit-goes, deficit-stays, deficit-
 use Rattle.promises.specs.Keep.{inside, fine-at, put-rows, lose-length, lose-le, lose-sum, lose-all, lose-fine}
 use Rattle.promises.specs.Tick.{Late, late-claims, late-all, Alike}
 
-pub runs-active : (x : Thread) → T (contends x) → T (active x)
+runs-active : (x : Thread) → T (contends x) → T (active x)
 runs-active x c = go (x .phase) c
   where
     go : (p : Phase) → T (isContending p) → T (not (isInactive p))

@@ -3,25 +3,22 @@ use mathlib.Core.Path.{_≡_, sym, ap, ap₂, _∙_}
 use mathlib.Core.List.{List, [], _∷_}
 use Prim.Native.Nat.{ℕ, zero, suc, _+_, _*_, _-_, _<_}
 use native.Mathlib.Omega.{arith}
-use borrow.Author.Tests.{eqb-false}
-use lib.Dec.{eqb}
 use lib.IntN.{pos}
 use lib.Signed.{_≤ℤ_}
 use Rattle.integers.specs.Parts.{parts-le}
 use Rattle.lists.specs.All.{All, none, more, all-append}
-use Rattle.rules.specs.Limits.{nobody, clockEnd}
 use Rattle.rules.specs.Threads.{State, at}
 use Rattle.rules.specs.Table.{Answer, Done, Refused}
 use Rattle.rules.specs.Completion.{completion}
 use Rattle.rules.specs.Arrival.{arrival}
 use Rattle.rules.specs.Drop.{dropped}
 use Rattle.rules.specs.Choice.{chosen}
-use Rattle.rules.specs.Step.{Stepped, ready, stepped}
+use Rattle.rules.specs.Step.{Stepped, ready}
 use Rattle.rules.specs.Run.{ran}
 use Rattle.rules.specs.Calls as calls
 use Rattle.rules.specs.Calls.{Call}
 use Rattle.rules.specs.History.{Happening, completed, arrived, dropped-to-head, ifDone, tickAs, tickOf, ticksOf, runAs, happens, history}
-use Rattle.promises.specs.Cases.{by-test}
+use Rattle.promises.specs.Branches.{by-step}
 use Rattle.promises.specs.Demand3.{EndsInTime}
 use Rattle.promises.specs.Good.{Good}
 use Rattle.promises.specs.Keep.{fine-at}
@@ -50,14 +47,11 @@ grant-in-time {u} {s} k g c ch =
 
 module _ {u : ℕ → ℕ} where
   tick-in-time : {s : State} → Shares u s → Good s → All (EndsInTime u) (tickOf s)
-  unfolding tickOf stepped
+  unfolding tickOf
   tick-in-time {s} k g =
-      by-test P (eqb (s .clock .0) clockEnd) (λ _. none)
-      (λ _. by-test P (eqb (chosen (ready s)) nobody) (λ _. more tt none)
-      (λ e. more (grant-in-time k g (chosen (ready s)) (chosen-leads (ready-ready g) (eqb-false (chosen (ready s)) nobody e))) none))
-    where
-      P : Stepped → Type 0
-      P r = All (EndsInTime u) (tickAs (r .outcome) s)
+      by-step s (λ (r : Stepped). All (EndsInTime u) (tickAs (r .outcome) s)) (λ _. none)
+      (λ _ _. more tt none)
+      (λ _ n. more (grant-in-time k g (chosen (ready s)) (chosen-leads (ready-ready g) n)) none)
 
   ticks-in-time : (n : ℕ) {s : State} → Shares u s → Good s → All (EndsInTime u) (ticksOf n s)
   unfolding ticksOf

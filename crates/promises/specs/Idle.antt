@@ -1,12 +1,12 @@
 -- Where no thread is active, only time passes: every tick is idle and changes no thread, up to the clock's end.
 use mathlib.Core.Path.{_≡_, refl, sym, ap, _∙_, subst}
 use mathlib.Core.Bool.{false}
-use mathlib.Core.List.{List, [], _∷_, _++_}
+use mathlib.Core.List.{List}
 use Prim.Native.Nat.{ℕ, zero, suc, _+_, _-_, _≤_, _<_}
 use native.Mathlib.Omega.{arith}
-use lib.ListN.{take, replicate}
+use lib.ListN.{take}
 use Rattle.lists.specs.All.{All, all-or, all-set, all-stay, all-same, all-made}
-use Rattle.rules.specs.Limits.{maxThreads, nobody, clockEnd, idleEntry}
+use Rattle.rules.specs.Limits.{maxThreads, nobody, clockEnd}
 use Rattle.rules.specs.Threads.{Thread, State, withRows, blank, at, idle, contends, earliest}
 use Rattle.rules.specs.Table.{Row, Table, Answer, Done, Refused, rowAt, opened, openedTo, start, openedAs, tableAnswer, opening}
 use Rattle.rules.specs.Leaving.{leave, gone}
@@ -14,7 +14,7 @@ use Rattle.rules.specs.Fitting.{fit, fitIn, fitted, roomOf}
 use Rattle.rules.specs.Choice.{chosen, idled}
 use Rattle.rules.specs.Charge.{moved}
 use Rattle.rules.specs.Step.{Idle, Stepped, ready, taken, stepped}
-use Rattle.rules.specs.Run.{entryOf, stateAfter, rowAfter}
+use Rattle.rules.specs.Run.{stateAfter}
 use Rattle.rules.specs.Records.{Moment}
 use Rattle.rules.specs.Calls.{Given}
 use Rattle.promises.specs.Cases.{by-test}
@@ -23,7 +23,7 @@ use Rattle.promises.specs.Ready.{ready-beside}
 use Rattle.promises.specs.Taken.{step-is}
 
 -- x is inactive: "An inactive thread has W = 0 and E = 0"
-abbrev pub AtRest : Thread → Type 0
+abbrev AtRest : Thread → Type 0
 AtRest x = idle x ≡ x
 
 -- no thread of the table is active
@@ -89,7 +89,7 @@ module _ (s : State) (a : NoneActive s) where
   none-contends (suc i) h = rw (rest-contends (at (s .threads) i) (all-or {P = AtRest} (s .count) (s .threads) i blank refl a (omega arith))) (none-contends i (omega arith))
 
   -- the tick is idle
-  pub rest-step : (s .clock .0 ≡ clockEnd → ⊥) → stepped s ≡ record { outcome = Idle; state = idleTo (s .clock .0 + 1) s }
+  rest-step : (s .clock .0 ≡ clockEnd → ⊥) → stepped s ≡ record { outcome = Idle; state = idleTo (s .clock .0 + 1) s }
   unfolding moved
   rest-step early =
       step-is s early
@@ -111,7 +111,7 @@ all-idled s = all-made (s .count) idle (s .threads) (λ x. refl)
 
 -- Where no thread contends at the choice, every tick from then on is idle, to the clock's end: all threads become inactive, and
 -- then nothing changes but the clock.
-pub idle-on : (n : ℕ) (s : State) → chosen (ready s) ≡ nobody → s .clock .0 + suc n ≤ clockEnd → stateAfter (suc n) s ≡ idleTo (s .clock .0 + suc n) (idled (ready s))
+idle-on : (n : ℕ) (s : State) → chosen (ready s) ≡ nobody → s .clock .0 + suc n ≤ clockEnd → stateAfter (suc n) s ≡ idleTo (s .clock .0 + suc n) (idled (ready s))
 unfolding stateAfter
 idle-on zero s e h = ap (λ (r : Stepped). r .state) (none-chosen s e (λ f. omega arith))
 idle-on (suc n) s e h =
@@ -120,25 +120,6 @@ idle-on (suc n) s e h =
     ∙ ap (λ (r : Stepped). r .state) (rest-step (idleTo (s .clock .0 + suc n) (idled (ready s))) (all-idled (ready s)) (λ f. omega arith))
     ∙ ap (λ m. idleTo m (idled (ready s))) k
 
--- .. and the entry of each of them is that of an idle tick
-pub idle-row : (n : ℕ) (s : State) → chosen (ready s) ≡ nobody → s .clock .0 + n ≤ clockEnd → rowAfter n s ≡ replicate n idleEntry
-unfolding rowAfter stateAfter
-idle-row zero s e h = refl
-idle-row (suc n) s e h =
-    ap (λ (row : List ℕ). row ++ (entryOf (stepped (stateAfter n s) .outcome) ∷ [])) (idle-row n s e (omega arith))
-    ∙ ap (λ k. replicate n idleEntry ++ (k ∷ [])) (entry n (omega arith))
-    ∙ replicate-more n idleEntry
-  where
-    entry : (k : ℕ) → s .clock .0 + suc k ≤ clockEnd → entryOf (stepped (stateAfter k s) .outcome) ≡ idleEntry
-    entry zero h = ap (λ (r : Stepped). entryOf (r .outcome)) (none-chosen s e (λ f. omega arith))
-    entry (suc k) h =
-        ap (λ (z : State). entryOf (stepped z .outcome)) (idle-on k s e (omega arith))
-        ∙ ap (λ (r : Stepped). entryOf (r .outcome)) (rest-step (idleTo (s .clock .0 + suc k) (idled (ready s))) (all-idled (ready s)) (λ f. omega arith))
-
-    replicate-more : {A : Type 0} (n : ℕ) (x : A) → replicate n x ++ (x ∷ []) ≡ replicate (suc n) x
-    replicate-more zero x = refl
-    replicate-more (suc n) x = ap (λ xs. x ∷ xs) (replicate-more n x)
-
 -- A schedule in which no thread is active stays the same through idle ticks, but for the clock.
 pub rest-steps : (n : ℕ) (s : State) → NoneActive s → s .clock .0 + suc n ≤ clockEnd → stateAfter (suc n) s ≡ idleTo (s .clock .0 + suc n) s
 rest-steps n s a h =
@@ -146,7 +127,7 @@ rest-steps n s a h =
     ∙ ap (idleTo (s .clock .0 + suc n)) (ap idled (rest-ready s a) ∙ rest-idled s a)
 
 -- .. and is given at every later moment
-pub given-idle : {s : State} → Given s → NoneActive s → (m : ℕ) → s .clock .0 < m → m ≤ clockEnd → Given (idleTo m s)
+given-idle : {s : State} → Given s → NoneActive s → (m : ℕ) → s .clock .0 < m → m ≤ clockEnd → Given (idleTo m s)
 given-idle {s} g a m h l =
     let n : s .clock .0 + suc (m - suc (s .clock .0)) ≡ m = omega arith in
     subst (λ k. Given (idleTo k s)) n (subst Given (rest-steps (m - suc (s .clock .0)) s a (omega arith)) (given-steps (suc (m - suc (s .clock .0))) g))
@@ -158,7 +139,7 @@ opened-rest usual rows n zero = all-same n maxThreads blank refl
 opened-rest usual rows n (suc k) = all-set n (openedTo usual rows k) k (opened usual (rowAt rows k)) (opened-rest usual rows n k) refl
 
 -- what a table begins with, and what a refused one hands out
-pub opening-rest : (usual : ℕ) (t : Table) → NoneActive (opening usual t .state)
+opening-rest : (usual : ℕ) (t : Table) → NoneActive (opening usual t .state)
 unfolding opening start
 opening-rest usual t = go (tableAnswer usual t)
   where
@@ -176,6 +157,7 @@ given-late usual t zero h = go (tableAnswer usual t) (given-opening usual t)
     go (Refused n) g = g
 given-late usual t (suc m) h = go (tableAnswer usual t) (λ l. given-idle (given-opening usual t) (opening-rest usual t) (suc m) l h)
   where
-    go : (a : Answer) → (openedAs a (start usual t) .state .clock .0 < suc m → Given (idleTo (suc m) (openedAs a (start usual t) .state))) → Given (withClock (suc m) (openedAs a (start usual t) .state))
+    go : (a : Answer) → (openedAs a (start usual t) .state .clock .0 < suc m → Given (idleTo (suc m) (openedAs a (start usual t) .state)))
+        → Given (withClock (suc m) (openedAs a (start usual t) .state))
     go Done f = f (omega arith)
     go (Refused n) f = f (omega arith)

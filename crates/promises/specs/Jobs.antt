@@ -13,16 +13,18 @@ use lib.ListN.{length, take, length-append, length-take}
 use Rattle.integers.specs.Parts.{up, dn, _≼_, _≺_, add-parts, sub-parts, ltZ-true}
 use Rattle.lists.specs.All as all
 use Rattle.lists.specs.All.{All, more, all-append}
-use Rattle.rules.specs.Threads.{Thread, Phase, Inactive, Contending, NonContending, with, withJobs, isContending, isNon, contends, idle, loses}
+use Rattle.rules.specs.Threads.{Thread, Phase, Inactive, Contending, NonContending, with, withJobs, isContending, contends, idle, loses}
 use Rattle.rules.specs.Completion.{goesOn, stays, ends}
 use Rattle.rules.specs.Leaving.{leave}
 use Rattle.rules.specs.Arrival.{arriveAs, arrive}
 use Rattle.rules.specs.Drop.{headOnly}
-use Rattle.rules.specs.Fitting.{postpone, fit}
+use Rattle.rules.specs.Fitting.{fit}
 use Rattle.rules.specs.Charge.{gains}
 use Rattle.rules.specs.History.{Job, Account, begins, figureOf, longer, completeHead, withWaiting}
 use Rattle.promises.specs.Cases.{by-test, true-T}
+use Rattle.promises.specs.Branches.{by-leaving, by-fitting}
 use Rattle.promises.specs.Demand3.{OnTime}
+use Rattle.promises.specs.Row.{apart}
 
 -- w is at most the figure of the job completed last, and there is one
 abbrev pub Within : ℤ → Option ℕ → Type 0
@@ -67,22 +69,14 @@ within-less : (f : Option ℕ) (w z : ℤ) → dn z ≡ 0 → Within w f → Wit
 within-less none w z h k = k
 within-less (some f) w z h k = omega (arith, sub-parts w z)
 
--- ---- leaving and fitting by their cases
-pub leave-cases : (P : Thread → Type 0) (t : ℕ) (x : Thread) → P x → (isNon (x .phase) ≡ true → P (idle x)) → P (leave t x)
-unfolding leave
-leave-cases P t x stay go = by-test P (isNon (x .phase)) (λ n. by-test P (ltZ (pos (x .share * t)) (x .w .0)) (λ _. stay) (λ _. go n)) (λ _. stay)
-
-pub fit-cases : (P : Thread → Type 0) (room : ℕ) (x : Thread) → P x → (ltZ (x .e .0 -ℤ x .w .0) (pos room) ≡ true → P (postpone x)) → P (fit room x)
-unfolding fit
-fit-cases P room x stay later = by-test P (contends x) (λ _. by-test P (ltZ (x .e .0 -ℤ x .w .0) (pos room)) later (λ _. stay)) (λ _. stay)
-
 -- ---- each change of a thread keeps it in agreement with the account that the change makes
 module _ {q u p : ℕ} {g : Account} (x : Thread) (a : Agrees q u p g x) where
   span : x .share * x .period ≡ u * p
   span = ap₂ _*_ (a .share-same) (a .period-same)
 
   -- share and period stay
-  changed : {g' : Account} {n : ℕ} {ph : Phase} {w e : ℤ} → n ≡ length (g' .waiting) → Stage q u p (g' .previous) w e ph (g' .waiting) → Agrees q u p g' (withJobs (with x ph w e) n)
+  changed : {g' : Account} {n : ℕ} {ph : Phase} {w e : ℤ} → n ≡ length (g' .waiting) → Stage q u p (g' .previous) w e ph (g' .waiting)
+      → Agrees q u p g' (withJobs (with x ph w e) n)
   changed c s = record { share-same = a .share-same; period-same = a .period-same; count = c; stage = s }
 
   pub lose-agrees : (z : ℤ) → dn z ≡ 0 → Agrees q u p g (loses z x)
@@ -94,9 +88,10 @@ module _ {q u p : ℕ} {g : Account} (x : Thread) (a : Agrees q u p g x) where
       go {f = f} {w = w} (ahead k) = ahead (within-less f w z h k)
 
   pub fit-agrees : (room : ℕ) → room ≤ q → Agrees q u p g (fit room x)
-  fit-agrees room h = fit-cases (Agrees q u p g) room x a (λ s. changed (a .count) (go (a .stage) s))
+  fit-agrees room h = by-fitting (Agrees q u p g) room x a (λ _ s. changed (a .count) (go (a .stage) s))
     where
-      go : {f : Option ℕ} {w e : ℤ} {ph : Phase} {js : List Job} → Stage q u p f w e ph js → ltZ (e -ℤ w) (pos room) ≡ true → Stage q u p f w (e +ℤ pos (x .share * x .period)) ph js
+      go : {f : Option ℕ} {w e : ℤ} {ph : Phase} {js : List Job} → Stage q u p f w e ph js → ltZ (e -ℤ w) (pos room) ≡ true
+          → Stage q u p f w (e +ℤ pos (x .share * x .period)) ph js
       go resting s = resting
       go {w = w} {e = e} (working j k l) s = working j k (omega (arith, span, add-parts e (pos (x .share * x .period)), sub-parts e w, ltZ-true (e -ℤ w) (pos room) s))
       go (ahead k) s = ahead k
@@ -110,12 +105,7 @@ module _ {q u p : ℕ} {g : Account} (x : Thread) (a : Agrees q u p g x) where
       go (ahead k) n = resting
 
   pub leave-agrees : (t : ℕ) → Agrees q u p g (leave t x)
-  leave-agrees t = leave-cases (Agrees q u p g) t x a (λ n. idle-agrees (apart (x .phase) (true-T n)))
-    where
-      apart : (ph : Phase) → T (isNon ph) → T (isContending ph) → ⊥
-      apart Inactive n c = c
-      apart Contending n c = n
-      apart NonContending n c = c
+  leave-agrees t = by-leaving (Agrees q u p g) t x a (λ n _. idle-agrees (apart (x .phase) (true-T n)))
 
   pub drop-agrees : Agrees q u p (withWaiting g (take 1 (g .waiting))) (headOnly x)
   unfolding headOnly
@@ -140,7 +130,8 @@ module _ {q u p : ℕ} {g : Account} (x : Thread) (a : Agrees q u p g x) where
       longer-length [] = refl
       longer-length (j ∷ js) = refl
 
-      go : {f : Option ℕ} {w e : ℤ} {ph : Phase} {js : List Job} → Stage q u p f w e ph js → T (isContending ph) → Stage q u p f (w +ℤ pos r) e ph (longer js) × Close q u p f e (longer js)
+      go : {f : Option ℕ} {w e : ℤ} {ph : Phase} {js : List Job} → Stage q u p f w e ph js → T (isContending ph)
+          → Stage q u p f (w +ℤ pos r) e ph (longer js) × Close q u p f e (longer js)
       go resting c = absurd c
       go {f = f} {w = w} (working j k l) c =
           let i : Job = record { arrival = j .arrival; length = j .length + 1 } in
@@ -158,7 +149,8 @@ module _ {q u p : ℕ} {g : Account} (x : Thread) (a : Agrees q u p g x) where
       here : x .share * t ≡ u * t
       here = ap (λ (v : ℕ). v * t) (a .share-same)
 
-      go : {ph : Phase} {js : List Job} → Stage q u p (g .previous) (x .w .0) (x .e .0) ph js → x .jobs ≡ length js → Agrees q u p (withWaiting g (js ++ (new ∷ []))) (withJobs (arriveAs ph t x) (x .jobs + 1))
+      go : {ph : Phase} {js : List Job} → Stage q u p (g .previous) (x .w .0) (x .e .0) ph js → x .jobs ≡ length js
+          → Agrees q u p (withWaiting g (js ++ (new ∷ []))) (withJobs (arriveAs ph t x) (x .jobs + 1))
       go resting c =
           let b = begins-least u (g .previous) new in
           changed (omega arith) (working new (omega (arith, here)) (omega (arith, here, span, add-parts (pos (x .share * t)) (pos (x .share * x .period)))))
@@ -180,10 +172,12 @@ pub record Completes (q u p : ℕ) (g : Account) (x : Thread) : Type 0 where
   pub on-time : All (OnTime u p) (g .finished)
 
 -- u × t ≤ E < X + u × P
-pub completes : {q u p : ℕ} {g : Account} (t : ℕ) (x : Thread) → Agrees q u p g x → Close q u p (g .previous) (x .e .0) (g .waiting) → 0 < q → u * t ≤ up (x .e .0) → dn (x .e .0) ≡ 0 → All (OnTime u p) (g .finished) → Completes q u p (completeHead q u t g (g .waiting)) x
+pub completes : {q u p : ℕ} {g : Account} (t : ℕ) (x : Thread) → Agrees q u p g x → Close q u p (g .previous) (x .e .0) (g .waiting) → 0 < q
+    → u * t ≤ up (x .e .0) → dn (x .e .0) ≡ 0 → All (OnTime u p) (g .finished) → Completes q u p (completeHead q u t g (g .waiting)) x
 completes {q} {u} {p} {g} t x a c q-min due whole before = go (a .stage) (a .count) c
   where
-    go : {ph : Phase} {js : List Job} → Stage q u p (g .previous) (x .w .0) (x .e .0) ph js → x .jobs ≡ length js → Close q u p (g .previous) (x .e .0) js → Completes q u p (completeHead q u t g js) (with x ph (x .w .0) (x .e .0))
+    go : {ph : Phase} {js : List Job} → Stage q u p (g .previous) (x .w .0) (x .e .0) ph js → x .jobs ≡ length js
+        → Close q u p (g .previous) (x .e .0) js → Completes q u p (completeHead q u t g js) (with x ph (x .w .0) (x .e .0))
     go (working j {js = []} k l) n (close _ c) = record {
       to-next = λ b. absurd (omega (arith, ltb-true 1 (x .jobs) b));
       to-wait = λ b. changed x a refl (ahead k);

@@ -7,19 +7,19 @@ use native.Mathlib.Nat.{le-refl}
 use native.Mathlib.Omega.{arith}
 use borrow.Author.Tests.{eqb-false}
 use lib.Dec.{T, eqb}
-use lib.IntN.{pos, _-ℤ_}
-use lib.Signed.{ltZ}
+use lib.IntN.{pos}
 use lib.ListN.{length, take, set, length-set}
 use Rattle.lists.specs.Sum.{sumBy, sum-map, sum-store}
-use Rattle.lists.specs.Take.{sum-put, sum-upd-le, sum-upd, all-upd, sum-map-le, at-upd}
+use Rattle.lists.specs.Take.{sum-put, sum-upd-le, all-upd, sum-map-le, at-upd}
 use Rattle.lists.specs.MapTo.{mapTo, map-length}
 use Rattle.lists.specs.All.{All, all-at, all-set, all-map}
 use Rattle.rules.specs.Limits.{nobody}
-use Rattle.rules.specs.Threads.{Thread, State, blank, at, scaled, isNon, contends, active, activeIn, idle, loses, loseAt, freeShare, freeOf}
+use Rattle.rules.specs.Threads.{Thread, State, blank, at, scaled, active, activeIn, loses, loseAt, freeShare, freeOf}
 use Rattle.rules.specs.Leaving.{leave}
 use Rattle.rules.specs.Fitting.{fit, postpone}
 use Rattle.rules.specs.Charge.{beneficiary, benefits}
-use Rattle.promises.specs.Cases.{test, by-test, both}
+use Rattle.promises.specs.Cases.{by-test, both, true-T}
+use Rattle.promises.specs.Branches.{by-leaving, by-fitting}
 use Rattle.promises.specs.Deadlines.{earliest-in}
 use Rattle.promises.specs.Shares.{others}
 use Rattle.promises.specs.Good.{share, deficit, claim, Fine, Rows, Ahead}
@@ -37,7 +37,8 @@ module _ {m q t : ℕ} {xs : List Thread} (r : Rows m q t xs) where
   fine-at i h = all-at m xs i blank (r .fine) h (inside h)
 
   -- a thread in another's place that has its share, is no further behind and claims no more
-  pub put-rows : (i : ℕ) (v : Thread) → i < m → v .share ≡ at xs i .share → Fine q t v → deficit t v ≤ deficit t (at xs i) → ((k n : ℕ) → claim t k n v ≤ claim t k n (at xs i)) → Rows m q t (set xs i v)
+  pub put-rows : (i : ℕ) (v : Thread) → i < m → v .share ≡ at xs i .share → Fine q t v → deficit t v ≤ deficit t (at xs i)
+      → ((k n : ℕ) → claim t k n v ≤ claim t k n (at xs i)) → Rows m q t (set xs i v)
   put-rows i v h e f d c = record {
     long = length-set xs i v ∙ r .long;
     few = r .few;
@@ -51,7 +52,8 @@ module _ {m q t : ℕ} {xs : List Thread} (r : Rows m q t xs) where
       same = sum-store share m xs i v blank e
 
   -- the same of all threads at once
-  pub map-rows : (f : Thread → Thread) → ((x : Thread) → f x .share ≡ x .share) → ((x : Thread) → Fine q t x → Fine q t (f x)) → ((x : Thread) → deficit t (f x) ≤ deficit t x) → ((k n : ℕ) (x : Thread) → claim t k n (f x) ≤ claim t k n x) → Rows m q t (mapTo m f xs)
+  map-rows : (f : Thread → Thread) → ((x : Thread) → f x .share ≡ x .share) → ((x : Thread) → Fine q t x → Fine q t (f x))
+      → ((x : Thread) → deficit t (f x) ≤ deficit t x) → ((k n : ℕ) (x : Thread) → claim t k n (f x) ≤ claim t k n x) → Rows m q t (mapTo m f xs)
   map-rows f e g d c = record {
     long = map-length m f xs ∙ r .long;
     few = r .few;
@@ -66,18 +68,12 @@ module _ {m q t : ℕ} {xs : List Thread} (r : Rows m q t xs) where
 
 -- ---- leaving
 leave-share : (t : ℕ) (x : Thread) → leave t x .share ≡ x .share
-unfolding leave
-leave-share t x = by-test P (isNon (x .phase)) (λ _. by-test P (ltZ (scaled x t) (x .w .0)) (λ _. refl) (λ _. refl)) (λ _. refl)
-  where
-    P : Thread → Type 0
-    P y = y .share ≡ x .share
+leave-share t x = by-leaving (λ (y : Thread). y .share ≡ x .share) t x refl (λ _ _. refl)
 
 leave-claim : (t k n : ℕ) (x : Thread) → claim t k n (leave t x) ≤ claim t k n x
-unfolding leave
 leave-claim t k n x =
-    test (λ c. claim t k n (cond c (cond (ltZ (scaled x t) (x .w .0)) x (idle x)) x) ≤ claim t k n x) (isNon (x .phase))
-    (λ p. by-test (λ (y : Thread). claim t k n y ≤ claim t k n x) (ltZ (scaled x t) (x .w .0)) (λ _. omega arith) (λ e. let h = ltZ-false (scaled x t) (x .w .0) e in claim-leaves t k n x (pos 0) (pos 0) p (omega arith)))
-    (λ _. omega arith)
+    by-leaving (λ (y : Thread). claim t k n y ≤ claim t k n x) t x (omega arith)
+    (λ p e. let h = ltZ-false (scaled x t) (x .w .0) e in claim-leaves t k n x (pos 0) (pos 0) (true-T p) (omega arith))
 
 pub leave-rows : {m q t : ℕ} {xs : List Thread} → Rows m q t xs → Rows m q t (mapTo m (leave t) xs) × All (Ahead t) (take m (mapTo m (leave t) xs))
 leave-rows {m} {q} {t} {xs} r = (
@@ -89,20 +85,14 @@ leave-rows {m} {q} {t} {xs} r = (
 module _ (room : ℕ) (x : Thread) where
   -- what fitting does not see
   fit-same : {A : Type 0} (f : Thread → A) → f (postpone x) ≡ f x → f (fit room x) ≡ f x
-  unfolding fit
-  fit-same f e = by-test P (contends x) (λ _. by-test P (ltZ (x .e .0 -ℤ x .w .0) (pos room)) (λ _. e) (λ _. refl)) (λ _. refl)
-    where
-      P : Thread → Type 0
-      P y = f y ≡ f x
+  fit-same f e = by-fitting (λ (y : Thread). f y ≡ f x) room x refl (λ _ _. e)
 
   fit-claim : (t k n : ℕ) → claim t k n (fit room x) ≤ claim t k n x
-  unfolding fit
   fit-claim t k n =
-      test (λ c. claim t k n (cond c (cond (ltZ (x .e .0 -ℤ x .w .0) (pos room)) (postpone x) x) x) ≤ claim t k n x) (contends x)
-      (λ c. by-test (λ (y : Thread). claim t k n y ≤ claim t k n x) (ltZ (x .e .0 -ℤ x .w .0) (pos room)) (λ _. let s = plus-parts (x .e .0) (x .share * x .period) in claim-postponed t k n x _ c (omega arith)) (λ _. omega arith))
-      (λ _. omega arith)
+      by-fitting (λ (y : Thread). claim t k n y ≤ claim t k n x) room x (omega arith)
+      (λ c _. let s = plus-parts (x .e .0) (x .share * x .period) in claim-postponed t k n x _ (true-T c) (omega arith))
 
-pub fit-share : (room : ℕ) (x : Thread) → fit room x .share ≡ x .share
+fit-share : (room : ℕ) (x : Thread) → fit room x .share ≡ x .share
 fit-share room x = fit-same room x (λ y. y .share) refl
 
 pub fit-app : (room : ℕ) (x : Thread) → fit room x .app ≡ x .app
@@ -126,7 +116,7 @@ module _ {m q t : ℕ} {xs : List Thread} (g : ℕ → ℕ) (r : Rows m q t xs) 
 
 -- ---- a number that is taken from the W of one thread, or of nobody
 module _ (r : ℕ) (xs : List Thread) (i : ℕ) where
-  pub lose-keeps : (P : List Thread → Type 0) → P xs → ((i ≡ nobody → ⊥) → P (set xs i (loses (pos r) (at xs i)))) → P (loseAt (pos r) xs i)
+  lose-keeps : (P : List Thread → Type 0) → P xs → ((i ≡ nobody → ⊥) → P (set xs i (loses (pos r) (at xs i)))) → P (loseAt (pos r) xs i)
   unfolding loseAt
   lose-keeps P a b = by-test P (eqb i nobody) (λ _. a) (λ e. b (eqb-false i nobody e))
 
@@ -143,7 +133,7 @@ module _ (r : ℕ) (xs : List Thread) (i : ℕ) where
 
     -- a sum that does not look at W
     pub lose-sum : (f : Thread → ℕ) → ((x : Thread) → f (loses (pos r) x) ≡ f x) → sumBy f (take m (loseAt (pos r) xs i)) ≡ sumBy f (take m xs)
-    lose-sum f h = lose-keeps (λ ys. sumBy f (take m ys) ≡ sumBy f (take m xs)) refl (λ _. sum-upd f (loses (pos r)) h m xs i blank)
+    lose-sum f h = lose-keeps (λ ys. sumBy f (take m ys) ≡ sumBy f (take m xs)) refl (λ _. sum-store f m xs i (loses (pos r) (at xs i)) blank (h (at xs i)))
 
     pub lose-all : (P : Thread → Type 0) → ((x : Thread) → P x → P (loses (pos r) x)) → All P (take m xs) → All P (take m (loseAt (pos r) xs i))
     lose-all P f a = lose-keeps (λ ys. All P (take m ys)) a (λ _. all-upd (loses (pos r)) f m xs i blank a)
@@ -155,7 +145,8 @@ module _ (r : ℕ) (xs : List Thread) (i : ℕ) where
 -- ---- the benefits of the applications below n but own
 module _ (own : ℕ) (s : State) where
   -- one application more
-  benefits-keep : (P : List Thread → Type 0) (a : ℕ) (xs : List Thread) → P (benefits own s a xs) → P (loseAt (pos (freeOf a s)) (benefits own s a xs) (beneficiary a s)) → P (benefits own s (suc a) xs)
+  benefits-keep : (P : List Thread → Type 0) (a : ℕ) (xs : List Thread) → P (benefits own s a xs)
+      → P (loseAt (pos (freeOf a s)) (benefits own s a xs) (beneficiary a s)) → P (benefits own s (suc a) xs)
   unfolding benefits
   benefits-keep P a xs p l = by-test P (eqb a own) (λ _. p) (λ _. l)
 
@@ -171,20 +162,23 @@ module _ (own : ℕ) (s : State) where
   benefits-length (suc a) xs = let i = benefits-length a xs in
       benefits-keep (λ ys. length ys ≡ length xs) a xs i (lose-length (freeOf a s) (benefits own s a xs) (beneficiary a s) ∙ i)
 
-  pub benefits-sum : (f : Thread → ℕ) → ((r : ℕ) (x : Thread) → f (loses (pos r) x) ≡ f x) → (m n : ℕ) (xs : List Thread) → sumBy f (take m (benefits own s n xs)) ≡ sumBy f (take m xs)
+  pub benefits-sum : (f : Thread → ℕ) → ((r : ℕ) (x : Thread) → f (loses (pos r) x) ≡ f x) → (m n : ℕ) (xs : List Thread)
+      → sumBy f (take m (benefits own s n xs)) ≡ sumBy f (take m xs)
   unfolding benefits
   benefits-sum f h m zero xs = refl
   benefits-sum f h m (suc a) xs = let i = benefits-sum f h m a xs in
       benefits-keep (λ ys. sumBy f (take m ys) ≡ sumBy f (take m xs)) a xs i (lose-sum (freeOf a s) (benefits own s a xs) (beneficiary a s) m f (h (freeOf a s)) ∙ i)
 
-  pub benefits-all : (P : Thread → Type 0) → ((r : ℕ) (x : Thread) → P x → P (loses (pos r) x)) → (m n : ℕ) (xs : List Thread) → All P (take m xs) → All P (take m (benefits own s n xs))
+  pub benefits-all : (P : Thread → Type 0) → ((r : ℕ) (x : Thread) → P x → P (loses (pos r) x)) → (m n : ℕ) (xs : List Thread) → All P (take m xs)
+      → All P (take m (benefits own s n xs))
   unfolding benefits
   benefits-all P f m zero xs p = p
   benefits-all P f m (suc a) xs p = let i = benefits-all P f m a xs p in
       benefits-keep (λ ys. All P (take m ys)) a xs i (lose-all (freeOf a s) (benefits own s a xs) (beneficiary a s) m P (f (freeOf a s)) i)
 
   -- a sum that rises by at most k times what is taken
-  pub benefits-le : (f : Thread → ℕ) (k : ℕ) → ((r : ℕ) (x : Thread) → f (loses (pos r) x) ≤ f x + k * r) → (m n : ℕ) (xs : List Thread) → sumBy f (take m (benefits own s n xs)) ≤ sumBy f (take m xs) + k * others own n (λ b. freeOf b s)
+  pub benefits-le : (f : Thread → ℕ) (k : ℕ) → ((r : ℕ) (x : Thread) → f (loses (pos r) x) ≤ f x + k * r) → (m n : ℕ) (xs : List Thread)
+      → sumBy f (take m (benefits own s n xs)) ≤ sumBy f (take m xs) + k * others own n (λ b. freeOf b s)
   unfolding benefits others
   benefits-le f k h m zero xs = omega arith
   benefits-le f k h m (suc a) xs = go (eqb a own) (benefits-le f k h m a xs)
@@ -198,7 +192,8 @@ module _ (own : ℕ) (s : State) where
       go false rec = omega (arith, lose-le (freeOf a s) ys (beneficiary a s) m f (k * freeOf a s) (h (freeOf a s)))
 
   -- every beneficiary is active
-  pub benefits-fine : (q t n : ℕ) → s .count ≤ length (s .threads) → All (Fine q t) (take (s .count) (s .threads)) → All (Fine q t) (take (s .count) (benefits own s n (s .threads)))
+  pub benefits-fine : (q t n : ℕ) → s .count ≤ length (s .threads) → All (Fine q t) (take (s .count) (s .threads))
+      → All (Fine q t) (take (s .count) (benefits own s n (s .threads)))
   unfolding benefits
   benefits-fine q t zero l p = p
   benefits-fine q t (suc a) l p = let i = benefits-fine q t a l p in

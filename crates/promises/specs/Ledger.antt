@@ -4,12 +4,11 @@ use mathlib.Core.Bool.{Bool, false, cond}
 use mathlib.Core.List.{List, [], _∷_, _++_}
 use Prim.Native.Nat.{ℕ, zero, suc, _*_, _-_, _<_}
 use native.Mathlib.Omega.{arith}
-use borrow.Author.Tests.{eqb-true, eqb-false}
-use lib.Dec.{T, eqb, ltb}
+use borrow.Author.Tests.{eqb-true}
+use lib.Dec.{T, eqb}
 use lib.ListN.{length, take, set}
 use Rattle.lists.specs.All.{All}
 use Rattle.lists.specs.Take.{at-put}
-use Rattle.rules.specs.Limits.{maxJobs, nobody, clockEnd}
 use Rattle.rules.specs.Threads.{Thread, State, withRows, blank, at, contends}
 use Rattle.rules.specs.Table.{Answered}
 use Rattle.rules.specs.Completion.{afterCompletion, completion}
@@ -23,6 +22,7 @@ use Rattle.rules.specs.Calls as calls
 use Rattle.rules.specs.Calls.{Call, apply, after}
 use Rattle.rules.specs.History.{Happening, arrived as arrived-at, completed, dropped-to-head, ifDone, tickAs, tickOf, ticksOf, runAs, happens, history, Account, completeHead, withWaiting, account, accountOf}
 use Rattle.promises.specs.Cases.{by-test, true-false}
+use Rattle.promises.specs.Branches.{by-completion, by-arrival, by-drop, by-step, by-run}
 use Rattle.promises.specs.Good.{Fine, Good}
 use Rattle.promises.specs.Keep.{inside, fine-at}
 use Rattle.promises.specs.Ready.{gone-beside, ready-ready, chosen-leads, none-contends}
@@ -40,10 +40,11 @@ module _ {q u p i : ℕ} {g : Account} {s : State} (good : Good s) (b : Books q 
   among = inside (good .rows) (b .inside)
 
   tick-books : Books q u p i (account q u i g (tickOf s)) (stepped s .state)
-  unfolding tickOf stepped account
+  unfolding tickOf account
   tick-books =
-      by-test After (eqb (s .clock .0) clockEnd) (λ _. b)
-      (λ _. by-test After (eqb (chosen z) nobody) (λ e. idle-books k (none-contends (ready-ready good) (eqb-true _ _ e) i (k .inside))) (λ e. grant-books k (chosen z) (chosen-leads (ready-ready good) (eqb-false _ _ e) .leads .runs)))
+      by-step s After (λ _. b)
+      (λ _ e. idle-books k (none-contends (ready-ready good) e i (k .inside)))
+      (λ _ n. grant-books k (chosen z) (chosen-leads (ready-ready good) n .leads .runs))
     where
       z : State
       z = ready s
@@ -55,18 +56,17 @@ module _ {q u p i : ℕ} {g : Account} {s : State} (good : Good s) (b : Books q 
       After r = Books q u p i (account q u i g (tickAs (r .outcome) s)) (r .state)
 
   arrival-books : (j : ℕ) → Books q u p i (account q u i g (happens s (calls.arrive j))) (arrival s j .state)
-  unfolding arrival account
+  unfolding account
   arrival-books j =
-      by-test After (ltb j (s .count))
-      (λ _. by-test After (ltb (at (s .threads) j .jobs) maxJobs) (λ _. subst (λ t. Books q u p i (accountOf q u i g (arrived-at j t)) (arrived (gone s) j)) (ap (λ m. m .0) (gone-beside s .clock)) (arrived-books (gone-standing good b) q-pos j)) (λ _. b))
-      (λ _. b)
+      by-arrival s After j (λ _. b)
+      (λ _ _. subst (λ t. Books q u p i (accountOf q u i g (arrived-at j t)) (arrived (gone s) j)) (ap (λ m. m .0) (gone-beside s .clock)) (arrived-books (gone-standing good b) q-pos j))
     where
       After : Answered → Type 0
       After r = Books q u p i (account q u i g (ifDone (r .answer) (arrived-at j (s .clock .0)))) (r .state)
 
   drop-books : (j : ℕ) → Books q u p i (account q u i g (happens s (calls.drop j))) (dropped s j .state)
-  unfolding dropped account headOnly
-  drop-books j = by-test After (ltb j (s .count)) (λ _. into) (λ _. b)
+  unfolding account headOnly
+  drop-books j = by-drop s After j (λ _. b) (λ _. into)
     where
       After : Answered → Type 0
       After r = Books q u p i (account q u i g (ifDone (r .answer) (dropped-to-head j (s .clock .0)))) (r .state)
@@ -97,12 +97,10 @@ module _ {q u p i : ℕ} {g : Account} {s : State} (good : Good s) (b : Books q 
       runs = subst (λ j. T (contends (at (s .threads) j))) l (good .head-start c d (omega (arith, b .inside)) .runs)
 
   completion-books : (j : ℕ) → Books q u p i (account q u i g (happens s (calls.complete j))) (completion s j .state)
-  unfolding completion afterCompletion account
+  unfolding afterCompletion account
   completion-books j =
-      by-test After (ltb j (s .count))
-      (λ _. by-test After (s .closed) (λ _. b)
-      (λ c. by-test After (eqb j (s .had)) (λ e. by-test After (s .completed) (λ _. b) (λ d. into (λ o. subst (λ k. Completes q u p h (at (s .threads) k)) (sym o) (in-time c d (sym (eqb-true j (s .had) e) ∙ o))))) (λ _. b)))
-      (λ _. b)
+      by-completion s After j (λ _. b)
+      (λ _ c d e. into (λ o. subst (λ k. Completes q u p h (at (s .threads) k)) (sym o) (in-time c d (sym e ∙ o))))
     where
       After : Answered → Type 0
       After r = Books q u p i (account q u i g (ifDone (r .answer) (completed j (s .clock .0)))) (r .state)
@@ -120,7 +118,7 @@ module _ {q u p i : ℕ} {g : Account} {s : State} (good : Good s) (b : Books q 
       }
 
 -- the account goes on from where it was
-pub account-append : (q u i : ℕ) (g : Account) (hs ks : List Happening) → account q u i g (hs ++ ks) ≡ account q u i (account q u i g hs) ks
+account-append : (q u i : ℕ) (g : Account) (hs ks : List Happening) → account q u i g (hs ++ ks) ≡ account q u i (account q u i g hs) ks
 unfolding account
 account-append q u i g [] ks = refl
 account-append q u i g (h ∷ hs) ks = account-append q u i (accountOf q u i g h) hs ks
@@ -132,12 +130,10 @@ module _ {q u p i : ℕ} where
   ticks-books zero good b = b
   ticks-books (suc k) {g} {s} good b = rw (account-append q u i g (ticksOf k s) (tickOf (stateAfter k s))) (tick-books (steps-good k good) (ticks-books k good b))
 
-  run-books : (to : ℕ) (row : List ℕ) {g : Account} {s : State} → Good s → Books q u p i g s → Books q u p i (account q u i g (happens s (calls.run to row))) (ran s to row .result .state)
-  unfolding ran account
-  run-books to row {g} {s} good b =
-      by-test After (ltb to (s .clock .0)) (λ _. b)
-      (λ _. by-test After (ltb clockEnd to) (λ _. b)
-      (λ _. by-test After (ltb (length row) (to - s .clock .0)) (λ _. b) (λ _. ticks-books (to - s .clock .0) good b)))
+  run-books : (to : ℕ) (row : List ℕ) {g : Account} {s : State} → Good s → Books q u p i g s
+      → Books q u p i (account q u i g (happens s (calls.run to row))) (ran s to row .result .state)
+  unfolding account
+  run-books to row {g} {s} good b = by-run s After to row (λ _. b) (ticks-books (to - s .clock .0) good b)
     where
       After : Ran → Type 0
       After r = Books q u p i (account q u i g (runAs (r .result .answer) (to - s .clock .0) s)) (r .result .state)

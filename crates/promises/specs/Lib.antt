@@ -1,6 +1,7 @@
 pub mod Demand3
 pub mod Refused
 pub mod Cases
+pub mod Branches
 pub mod Deadlines
 pub mod Good
 pub mod Shares

@@ -19,7 +19,7 @@ use Rattle.promises.specs.Grants.{Shares, history-in-time}
 use Rattle.promises.specs.Books.{Books, first-books}
 use Rattle.promises.specs.Ledger.{after-books}
 use Rattle.promises.specs.Counted.{moments-counted, ticks-counted, history-fed}
-use Rattle.promises.specs.Demand3.{WithinDeadline, Demand3, shareOf, past}
+use Rattle.promises.specs.Demand3.{WithinDeadline, Demand3, shareOf, past, Promised}
 
 within : {s : State} → Steady s → WithinDeadline s
 within g i h = parts-le _ _ (fine-at (g .rows) i h .ordered)
@@ -45,12 +45,15 @@ module _ (usual : ℕ) (t : Table) (e : tableAnswer usual t ≡ Done) where
   unfolding start
   first i h = subst (λ (x : Thread). Books (t .q) (x .share) (x .period) i noJobs (start usual t)) (row-is i h) (first-books few refl h (ap (λ x. x .phase) (row-is i h)) (ap (λ x. x .jobs) (row-is i h)))
 
-  pub demand-3 : (cs : List Call) → Demand3 usual t cs
+  holds : (cs : List Call) → Demand3 usual t cs
   unfolding sumBy
-  demand-3 cs = record {
+  holds cs = record {
     virtual-time = let g = after-good cs begins-good in (within (steady g), within (ready-ready g .sound));
     granted-ticks = history-in-time cs shares-are begins-good;
     jobs = λ i h. after-books cs begins-good (first i h) .on-time;
     all-jobs = λ i h. moments-counted (t .q) (shareOf usual t cs i) i (past usual t cs) noJobs (history-fed cs begins-good (first i h));
     all-ticks = λ i h. omega (arith, ticks-counted (t .q) (shareOf usual t cs i) i (past usual t cs) noJobs (history-fed cs begins-good (first i h)) tt);
   }
+
+pub demand-3 : Promised
+demand-3 usual t e cs = holds usual t e cs

@@ -68,7 +68,7 @@ fitted-fits : {s : State} → Steady s → (c : ℕ) → c < fitted s .count →
 unfolding fitted
 fitted-fits {s} g c h = all-at (s .count) (fitted s .threads) c blank (all-fit (λ a. freeOf a s) (g .rows)) h (inside (fitted-steady g .rows) h)
 
-pub fitted-ready : {s : State} → Steady s → Ready (fitted s)
+fitted-ready : {s : State} → Steady s → Ready (fitted s)
 fitted-ready {s} g = record {
   sound = fitted-steady g;
   fit = λ c h. subst (λ (r : ℕ). Fits (fitted s .q - r) (at (fitted s .threads) c)) (sym (fitted-free (at (fitted s .threads) c .app) s)) (fitted-fits g c h);

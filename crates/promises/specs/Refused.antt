@@ -4,60 +4,42 @@ use mathlib.Core.Bool.{Bool, true, false, cond}
 use mathlib.Core.List.{List, _++_}
 use Prim.Native.Nat.{ℕ, _-_, _≤_}
 use borrow.Author.Tests.{le-ltb}
-use lib.Dec.{eqb, ltb}
+use lib.Dec.{ltb}
 use lib.ListN.{length, drop}
-use Rattle.rules.specs.Limits.{nobody, maxJobs, clockEnd}
-use Rattle.rules.specs.Threads.{State, at}
+use Rattle.rules.specs.Limits.{clockEnd}
+use Rattle.rules.specs.Threads.{State}
 use Rattle.rules.specs.Table.{Answered, numberOf, done, refused}
 use Rattle.rules.specs.Completion.{completion}
 use Rattle.rules.specs.Arrival.{arrival}
 use Rattle.rules.specs.Drop.{dropped}
-use Rattle.rules.specs.Choice.{chosen}
-use Rattle.rules.specs.Step.{Stepped, stepNumber, ready, stepped}
+use Rattle.rules.specs.Step.{Stepped, stepNumber, stepped}
 use Rattle.rules.specs.Run.{Ran, unrun, ran, stateAfter, rowAfter, passed}
 use Rattle.rules.specs.Calls as calls
 use Rattle.rules.specs.Calls.{Call, apply, refusalOf}
-use Rattle.promises.specs.Cases.{by-test}
+use Rattle.promises.specs.Branches.{by-completion, by-arrival, by-drop, by-step, by-run}
 
 module _ (s : State) where
   abbrev Kept : Answered → Type 0
   Kept r = (numberOf (r .answer) ≡ 0 → ⊥) → r .state ≡ s
 
   completion-kept : (i : ℕ) → Kept (completion s i)
-  unfolding completion
-  completion-kept i =
-      by-test Kept (ltb i (s .count))
-      (λ _. by-test Kept (s .closed) (λ _ _. refl)
-      (λ _. by-test Kept (eqb i (s .had)) (λ _. by-test Kept (s .completed) (λ _ _. refl) (λ _ n. absurd (n refl))) (λ _ _. refl)))
-      (λ _ _. refl)
+  completion-kept i = by-completion s Kept i (λ _ _. refl) (λ _ _ _ _ n. absurd (n refl))
 
   arrival-kept : (i : ℕ) → Kept (arrival s i)
-  unfolding arrival
-  arrival-kept i =
-      by-test Kept (ltb i (s .count))
-      (λ _. by-test Kept (ltb (at (s .threads) i .jobs) maxJobs) (λ _ n. absurd (n refl)) (λ _ _. refl))
-      (λ _ _. refl)
+  arrival-kept i = by-arrival s Kept i (λ _ _. refl) (λ _ _ n. absurd (n refl))
 
   drop-kept : (i : ℕ) → Kept (dropped s i)
-  unfolding dropped
-  drop-kept i = by-test Kept (ltb i (s .count)) (λ _ n. absurd (n refl)) (λ _ _. refl)
+  drop-kept i = by-drop s Kept i (λ _ _. refl) (λ _ n. absurd (n refl))
 
   step-kept : (stepNumber (stepped s .outcome) ≡ 0 → ⊥) → stepped s .state ≡ s
-  unfolding stepped
-  step-kept =
-      by-test P (eqb (s .clock .0) clockEnd) (λ _ _. refl)
-      (λ _. by-test P (eqb (chosen (ready s)) nobody) (λ _ n. absurd (n refl)) (λ _ n. absurd (n refl)))
+  step-kept = by-step s P (λ _ _. refl) (λ _ _ n. absurd (n refl)) (λ _ _ n. absurd (n refl))
     where
       P : Stepped → Type 0
       P r = (stepNumber (r .outcome) ≡ 0 → ⊥) → r .state ≡ s
 
   -- the state and the lent row
   pub run-kept : (to : ℕ) (row : List ℕ) → (numberOf (ran s to row .result .answer) ≡ 0 → ⊥) → (ran s to row .result .state ≡ s) × (ran s to row .row ≡ row)
-  unfolding ran
-  run-kept to row =
-      by-test P (ltb to (s .clock .0)) (λ _ _. (refl, refl))
-      (λ _. by-test P (ltb clockEnd to) (λ _ _. (refl, refl))
-      (λ _. by-test P (ltb (length row) (to - s .clock .0)) (λ _ _. (refl, refl)) (λ _ n. absurd (n refl))))
+  run-kept to row = by-run s P to row (λ _ _. (refl, refl)) (λ n. absurd (n refl))
     where
       P : Ran → Type 0
       P r = (numberOf (r .result .answer) ≡ 0 → ⊥) → (r .result .state ≡ s) × (r .row ≡ row)
@@ -70,7 +52,8 @@ module _ (s : State) where
       n : ℕ
       n = to - s .clock .0
 
-      go : (b c : Bool) → cond b (refused 12 s) (cond c (refused 13 s) (done (stateAfter n s))) ≡ cond b (unrun 12 s row) (cond c (unrun 13 s row) (record { result = done (stateAfter n s); row = rowAfter n s ++ drop n row })) .result
+      go : (b c : Bool)
+          → cond b (refused 12 s) (cond c (refused 13 s) (done (stateAfter n s))) ≡ cond b (unrun 12 s row) (cond c (unrun 13 s row) (record { result = done (stateAfter n s); row = rowAfter n s ++ drop n row })) .result
       go true c = refl
       go false true = refl
       go false false = refl

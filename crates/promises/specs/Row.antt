@@ -24,9 +24,16 @@ use Rattle.promises.specs.Good.{Shape, Fine, Ahead}
 abbrev pub Fits : ℕ → Thread → Type 0
 Fits room x = T (contends x) → up (x .w .0) + dn (x .e .0) + room ≤ up (x .e .0) + dn (x .w .0)
 
+-- no phase is two
+pub apart : (p : Phase) → T (isNon p) → T (isContending p) → ⊥
+apart Inactive n c = c
+apart Contending n c = n
+apart NonContending n c = c
+
 module _ (q t : ℕ) (x : Thread) (f : Fine q t x) where
   -- the same row with another phase, W, E and number of jobs
-  pub fine-as : (p : Phase) (w e : ℤ) (n : ℕ) → n ≤ maxJobs → Shape p n w e → w ≼ e → (T (isContending p) → x .share * t ≤ up e) → dn e ≡ 0 → up w ≤ q * t → up e ≤ q * t + q + x .share * x .period → Fine q t (withJobs (with x p w e) n)
+  fine-as : (p : Phase) (w e : ℤ) (n : ℕ) → n ≤ maxJobs → Shape p n w e → w ≼ e → (T (isContending p) → x .share * t ≤ up e) → dn e ≡ 0 → up w ≤ q * t
+      → up e ≤ q * t + q + x .share * x .period → Fine q t (withJobs (with x p w e) n)
   fine-as p w e n j s o d h k l = record {
     app-max = f .app-max;
     share-min = f .share-min;
@@ -43,7 +50,7 @@ module _ (q t : ℕ) (x : Thread) (f : Fine q t x) where
   }
 
   -- W and E stay
-  pub fine-phase : (p : Phase) (n : ℕ) → n ≤ maxJobs → Shape p n (x .w .0) (x .e .0) → (T (isContending p) → T (contends x)) → Fine q t (withJobs (with x p (x .w .0) (x .e .0)) n)
+  fine-phase : (p : Phase) (n : ℕ) → n ≤ maxJobs → Shape p n (x .w .0) (x .e .0) → (T (isContending p) → T (contends x)) → Fine q t (withJobs (with x p (x .w .0) (x .e .0)) n)
   fine-phase p n j s c = fine-as p (x .w .0) (x .e .0) n j s (f .ordered) (λ k. f .due (c k)) (f .e-whole) (f .w-up) (f .e-up)
 
   -- ---- by phase
@@ -53,7 +60,7 @@ module _ (q t : ℕ) (x : Thread) (f : Fine q t x) where
   jobless-as NonContending s n = s
 
   -- a thread that does not contend has no job
-  pub jobless : (T (contends x) → ⊥) → x .jobs ≡ 0
+  jobless : (T (contends x) → ⊥) → x .jobs ≡ 0
   jobless = jobless-as (x .phase) (f .shape)
 
   has-job-as : (p : Phase) → Shape p (x .jobs) (x .w .0) (x .e .0) → T (isContending p) → 1 ≤ x .jobs
@@ -78,11 +85,6 @@ module _ (q t : ℕ) (x : Thread) (f : Fine q t x) where
       P : Thread → Type 0
       P y = Fine q t y × Ahead t y
 
-      apart : (p : Phase) → T (isNon p) → T (isContending p) → ⊥
-      apart Inactive n c = c
-      apart Contending n c = n
-      apart NonContending n c = c
-
   -- ---- arrivals
   pub fine-arrive : Ahead t x → x .jobs < maxJobs → Fine q t (arrive t x)
   unfolding arrive
@@ -91,7 +93,8 @@ module _ (q t : ℕ) (x : Thread) (f : Fine q t x) where
       up-P : ℕ
       up-P = x .share * x .period
 
-      go : (p : Phase) → (T (isNon p) → x .share * t + dn (x .w .0) < up (x .w .0)) → (T (isContending p) → x .share * t ≤ up (x .e .0)) → Fine q t (withJobs (arriveAs p t x) (x .jobs + 1))
+      go : (p : Phase) → (T (isNon p) → x .share * t + dn (x .w .0) < up (x .w .0)) → (T (isContending p) → x .share * t ≤ up (x .e .0))
+          → Fine q t (withJobs (arriveAs p t x) (x .jobs + 1))
       go Inactive a d = let k = mul-le-mul-right t (f .share-max) in
           fine-as Contending (scaled x t) (scaled x t +ℤ scaled x (x .period)) (x .jobs + 1) (omega arith) (omega arith) (omega arith) (λ _. omega arith) refl (omega arith) (omega arith)
       go Contending a d = fine-as Contending (x .w .0) (x .e .0) (x .jobs + 1) (omega arith) (omega arith) (f .ordered) d (f .e-whole) (f .w-up) (f .e-up)

@@ -20,7 +20,8 @@ unfolding others
 others-add a zero f g = refl
 others-add a (suc n) f g = go (eqb n a) (others-add a n f g)
   where
-    go : (c : Bool) → others a n (λ b. f b + g b) ≡ others a n f + others a n g → cond c 0 (f n + g n) + others a n (λ b. f b + g b) ≡ (cond c 0 (f n) + others a n f) + (cond c 0 (g n) + others a n g)
+    go : (c : Bool) → others a n (λ b. f b + g b) ≡ others a n f + others a n g
+        → cond c 0 (f n + g n) + others a n (λ b. f b + g b) ≡ (cond c 0 (f n) + others a n f) + (cond c 0 (g n) + others a n g)
     go true rec = omega arith
     go false rec = omega arith
 

@@ -26,7 +26,7 @@ pub record Sized (q t : ℕ) (x : Thread) : Type 0 where
 pub w-dn : {m q t : ℕ} {xs : List Thread} → Rows m q t xs → (i : ℕ) → i < m → dn (at xs i .w .0) ≤ q * t
 w-dn {m} {q} {t} {xs} r i h = omega (arith, below t (at xs i), sum-at (deficit t) m xs i blank h (inside r h), r .debts)
 
-pub steady-sized : {s : State} → Steady s → (i : ℕ) → i < s .count → Sized (s .q) (s .clock .0) (at (s .threads) i)
+steady-sized : {s : State} → Steady s → (i : ℕ) → i < s .count → Sized (s .q) (s .clock .0) (at (s .threads) i)
 steady-sized {s} g i h =
     let f = fine-at (g .rows) i h in
     let d = w-dn (g .rows) i h in

@@ -18,7 +18,7 @@ use Rattle.rules.specs.Limits.{maxApp, nobody}
 use Rattle.rules.specs.Threads.{Thread, State, blank, at, withRows, isInactive, active, activeIn, freeShare, free, freeOf, sooner, closer, earliest, loses, loseAt}
 use Rattle.rules.specs.Leaving.{leave, gone}
 use Rattle.rules.specs.Charge.{beneficiary, benefits}
-use Rattle.promises.specs.Cases.{by-test}
+use Rattle.promises.specs.Cases.{by-test, and-false}
 use Rattle.promises.specs.Deadlines.{earliest-in}
 use Rattle.promises.specs.Sound.{Sound}
 
@@ -57,7 +57,8 @@ pub gone-is : (s : State) → gone s ≡ withRows s (mapTo (s .count) (leaves s)
 unfolding gone
 gone-is s = go (s .closed)
   where
-    go : (c : Bool) → cond c s (withRows s (mapTo (s .count) (leave (s .clock .0)) (s .threads))) ≡ withRows s (mapTo (s .count) (λ (x : Thread). cond c x (leave (s .clock .0) x)) (s .threads))
+    go : (c : Bool)
+        → cond c s (withRows s (mapTo (s .count) (leave (s .clock .0)) (s .threads))) ≡ withRows s (mapTo (s .count) (λ (x : Thread). cond c x (leave (s .clock .0) x)) (s .threads))
     go true = ap (withRows s) (sym (map-stays (s .count) (s .threads)))
     go false = refl
 
@@ -67,35 +68,35 @@ abbrev pub Table16 : (ℕ → ℕ) → List ℕ → Type 0
 Table16 g f = (a : ℕ) → a < 16 → getD f a 0 ≡ g a
 
 -- one row more: its own application's number changes, the others' do not
-pub table-more : (g g' : ℕ → ℕ) (f : List ℕ) (app v : ℕ) → length f ≡ 16 → app < 16 → Table16 g f → v ≡ g' app → ((a : ℕ) → (a ≡ app → ⊥) → g' a ≡ g a) → Table16 g' (set f app v)
+table-more : (g g' : ℕ → ℕ) (f : List ℕ) (app v : ℕ) → length f ≡ 16 → app < 16 → Table16 g f → v ≡ g' app → ((a : ℕ) → (a ≡ app → ⊥) → g' a ≡ g a) → Table16 g' (set f app v)
 table-more g g' f app v l h inv e same a k = go (ℕ-discrete a app)
   where
     go : Dec (a ≡ app) → getD (set f app v) a 0 ≡ g' a
     go (yes p) = subst (λ b. getD (set f app v) b 0 ≡ g' b) (sym p) (getD-set-same f app v 0 (omega arith) ∙ e)
     go (no n) = getD-set-other f app a v 0 n ∙ inv a k ∙ sym (same a n)
 
-and-no : (b : Bool) → (b && false) ≡ false
-and-no true = refl
-and-no false = refl
-
 -- ---- the two tables
 module _ (xs : List Thread) (i : ℕ) where
-  pub free-other : i < length xs → (a : ℕ) → (a ≡ at xs i .app → ⊥) → free a (i + 1) xs ≡ free a i xs
-  unfolding freeShare
-  free-other l a n = sum-more (freeShare a) xs i blank l ∙ zero-more (and-other (isInactive (at xs i .phase)))
-    where
-      and-other : (b : Bool) → (b && eqb (at xs i .app) a) ≡ false
-      and-other b = ap (λ c. b && c) (ne-eqb (at xs i .app) a (λ e. n (sym e))) ∙ and-no b
+  -- thread i is not of the application a, whatever else is asked of it
+  and-other : (a : ℕ) → (a ≡ at xs i .app → ⊥) → (b : Bool) → (b && eqb (at xs i .app) a) ≡ false
+  and-other a n b = ap (λ c. b && c) (ne-eqb (at xs i .app) a (λ e. n (sym e))) ∙ and-false b
 
-      zero-more : (isInactive (at xs i .phase) && eqb (at xs i .app) a) ≡ false → free a i xs + cond (isInactive (at xs i .phase) && eqb (at xs i .app) a) (at xs i .share) 0 ≡ free a i xs
+  free-other : i < length xs → (a : ℕ) → (a ≡ at xs i .app → ⊥) → free a (i + 1) xs ≡ free a i xs
+  unfolding freeShare
+  free-other l a n = sum-more (freeShare a) xs i blank l ∙ zero-more (and-other a n (isInactive (at xs i .phase)))
+    where
+      zero-more : (isInactive (at xs i .phase) && eqb (at xs i .app) a) ≡ false
+          → free a i xs + cond (isInactive (at xs i .phase) && eqb (at xs i .app) a) (at xs i .share) 0 ≡ free a i xs
       zero-more e = rw e (omega arith)
 
-  pub first-other : (a : ℕ) → (a ≡ at xs i .app → ⊥) → earliest (activeIn a) (i + 1) xs ≡ earliest (activeIn a) i xs
+  first-other : (a : ℕ) → (a ≡ at xs i .app → ⊥) → earliest (activeIn a) (i + 1) xs ≡ earliest (activeIn a) i xs
   unfolding earliest
-  first-other a n = ap (λ k. earliest (activeIn a) k xs) (add-one i) ∙ ap (λ c. cond c (cond (eqb (earliest (activeIn a) i xs) nobody) i (cond (sooner (at xs i) (at xs (earliest (activeIn a) i xs))) i (earliest (activeIn a) i xs))) (earliest (activeIn a) i xs)) (and-other (not (isInactive (at xs i .phase))))
+  first-other a n =
+      ap (λ k. earliest (activeIn a) k xs) (add-one i)
+      ∙ ap (λ c. cond c (cond (eqb b nobody) i (cond (sooner (at xs i) (at xs b)) i b)) b) (and-other a n (not (isInactive (at xs i .phase))))
     where
-      and-other : (b : Bool) → (b && eqb (at xs i .app) a) ≡ false
-      and-other b = ap (λ c. b && c) (ne-eqb (at xs i .app) a (λ e. n (sym e))) ∙ and-no b
+      b : ℕ
+      b = earliest (activeIn a) i xs
 
 -- no thread is of an application that there is not
 pub free-none : {s : State} → Sound s → (a : ℕ) → maxApp < a → (n : ℕ) → n ≤ s .count → free a n (s .threads) ≡ 0
@@ -146,7 +147,8 @@ module _ (xs : List Thread) (i : ℕ) (f : List ℕ) (long : length f ≡ 16) (x
   pub free-more : i < length xs → Table16 (λ a. free a i xs) f → Table16 (λ a. free a (i + 1) xs) (set f app (getD f app 0 + cond (isInactive (x .phase)) (x .share) 0))
   free-more l inv = table-more (λ a. free a i xs) (λ a. free a (i + 1) xs) f app _ long k inv (free-own l inv) (λ a n. free-other xs i l a (other n))
 
-  pub best-more : (o : Thread) → o ≡ at xs (besideOf (getD f app 0) i) → Table16 (λ a. earliest (activeIn a) i xs) f → Table16 (λ a. earliest (activeIn a) (i + 1) xs) (set f app (firstOf (active x) x o (getD f app 0) i))
+  pub best-more : (o : Thread) → o ≡ at xs (besideOf (getD f app 0) i) → Table16 (λ a. earliest (activeIn a) i xs) f
+      → Table16 (λ a. earliest (activeIn a) (i + 1) xs) (set f app (firstOf (active x) x o (getD f app 0) i))
   best-more o h inv =
       table-more (λ a. earliest (activeIn a) i xs) (λ a. earliest (activeIn a) (i + 1) xs) f app _ long k inv
       (ap (λ c. firstOf c x o (getD f app 0) i) (with-own (active x)) ∙ first-more (activeIn app) xs i (getD f app 0) (inv app k) x o e h)
@@ -162,6 +164,7 @@ module _ (own a : ℕ) (s : State) (xs : List Thread) where
   unfolding benefits loseAt
   hand-none n e = rw (add-one, ne-eqb a own n, e)
 
-  pub hand-one : (a ≡ own → ⊥) → (b : ℕ) → b ≡ beneficiary a s → (b ≡ nobody → ⊥) → (r : ℕ) → r ≡ freeOf a s → set (benefits own s a xs) b (loses (pos r) (at (benefits own s a xs) b)) ≡ benefits own s (a + 1) xs
+  pub hand-one : (a ≡ own → ⊥) → (b : ℕ) → b ≡ beneficiary a s → (b ≡ nobody → ⊥) → (r : ℕ) → r ≡ freeOf a s
+      → set (benefits own s a xs) b (loses (pos r) (at (benefits own s a xs) b)) ≡ benefits own s (a + 1) xs
   unfolding benefits loseAt
   hand-one n b e m r k = rw (add-one, ne-eqb a own n, ← e, ne-eqb b nobody m, k)

@@ -4,7 +4,7 @@ use mathlib.Core.Bool.{Bool, true, false, cond}
 use mathlib.Core.List.{List}
 use Prim.Native.Nat.{ℕ, zero, suc, _+_, _≤_, _<_}
 use native.Mathlib.Omega.{arith}
-use borrow.Author.Tests.{eq-eqb, ne-eqb, eqb-false}
+use borrow.Author.Tests.{eq-eqb, ne-eqb}
 use lib.Dec.{eqb}
 use lib.ListN.{length, length-append}
 use Rattle.lists.specs.MapTo.{mapTo}
@@ -16,7 +16,7 @@ use Rattle.rules.specs.Choice.{chosen, idled}
 use Rattle.rules.specs.Charge.{beneficiary, charged, moved}
 use Rattle.rules.specs.Step.{Outcome, Grant, Idle, Stepped, ready, taken, stepped}
 use Rattle.rules.specs.Run.{entryOf, stateAfter, rowAfter}
-use Rattle.promises.specs.Cases.{by-test}
+use Rattle.promises.specs.Branches.{by-step}
 use Rattle.promises.specs.Good.{Good}
 use Rattle.promises.specs.Ready.{Steady, Ready, gone-beside, ready-beside, gone-good, fitted-steady, ready-ready, fitted-free, before-end, chosen-leads}
 use Rattle.promises.specs.Sound.{Sound, sound}
@@ -117,7 +117,7 @@ module _ {s l z : State} {f : List ℕ} (c : Left s l f) (i : ℕ) (all : i ≡ 
   best-all r t a h = t a h ∙ same (activeIn a)
 
 module _ {s l z : State} {b : ℕ} (c : Chose s l z b) where
-  pub z-ready : Ready z
+  z-ready : Ready z
   z-ready = rw (c .fit, c .left) (ready-ready (c .good))
 
   pub z-steady : Steady z
@@ -141,7 +141,10 @@ module _ {s l z : State} {b : ℕ} (c : Chose s l z b) where
 -- who had a tick is a thread or nobody
 pub had-max : {s : State} → Good s → (s .clock .0 ≡ clockEnd → ⊥) → stepped s .state .had ≤ nobody
 unfolding moved
-had-max {s} g e = rw (step-is s e) (by-test (λ (r : Stepped). r .state .had ≤ nobody) (eqb (chosen (ready s)) nobody) (λ _. omega arith) (λ f. let y = ready-ready g in let h = chosen-leads y (eqb-false (chosen (ready s)) nobody f) .leads .inside in let k = y .sound .rows .few in omega arith))
+had-max {s} g e =
+    let y = ready-ready g in
+    by-step s (λ (r : Stepped). r .state .had ≤ nobody) (λ t. absurd (e t)) (λ _ _. omega arith)
+    (λ _ n. let k = y .sound .rows .few in omega (arith, chosen-leads y n .leads .inside))
 
 -- the entry of a tick is that of who had it
 pub step-entry : (s : State) → (s .clock .0 ≡ clockEnd → ⊥) → entryOf (stepped s .outcome) ≡ entryTo (stepped s .state .had)
@@ -155,7 +158,9 @@ row-length (suc n) s = let r = row-length n s in rw length-append (omega arith)
 
 step-clock : (s : State) → (s .clock .0 ≡ clockEnd → ⊥) → stepped s .state .clock .0 ≡ s .clock .0 + 1
 unfolding moved idled charged
-step-clock s e = ap (λ (r : Stepped). r .state .clock .0) (step-is s e) ∙ by-test (λ (r : Stepped). r .state .clock .0 ≡ s .clock .0 + 1) (eqb (chosen (ready s)) nobody) (λ _. ap (λ m. m .0 + 1) (ready-beside s .clock)) (λ _. ap (λ m. m .0 + 1) (ready-beside s .clock))
+step-clock s e =
+    let k = ap (λ m. m .0 + 1) (ready-beside s .clock) in
+    by-step s (λ (r : Stepped). r .state .clock .0 ≡ s .clock .0 + 1) (λ t. absurd (e t)) (λ _ _. k) (λ _ _. k)
 
 -- each tick of a run comes before the clock's end
 pub steps-clock : (n : ℕ) (s : State) → s .clock .0 + n ≤ clockEnd → stateAfter n s .clock .0 ≡ s .clock .0 + n

@@ -9,8 +9,8 @@ use lib.Dec.{T, eqb, nleb→lt}
 use lib.IntN.{ℤ, pos}
 use lib.ListN.{length, take, length-set}
 use Rattle.integers.specs.Parts.{up, dn, minus-parts}
-use Rattle.lists.specs.Sum.{sumBy, sum-map, sum-scale, sum-times}
-use Rattle.lists.specs.Take.{sum-put, sum-upd, sum-gap, all-upd, at-upd, sum-map-le, sum-le-add, sum-add-le}
+use Rattle.lists.specs.Sum.{sumBy, sum-map, sum-scale, sum-times, sum-store}
+use Rattle.lists.specs.Take.{sum-put, sum-gap, all-upd, at-upd, sum-map-le, sum-le-add, sum-add-le}
 use Rattle.lists.specs.MapTo.{mapTo, map-length}
 use Rattle.lists.specs.All.{All, none, more, all-at, all-set, all-map, all-of}
 use Rattle.rules.specs.Limits.{apps}
@@ -36,13 +36,15 @@ late-claims t k n h none = omega arith
 late-claims t k n h (more {x} p a) = omega (arith, claim-le t k n x h p, late-claims t k n h a)
 
 -- no deadline is early where the earliest is not
-late-as : (k n u : ℕ) (e : ℤ) (p : Phase) (v : ℕ) (d : ℤ) → 0 < u → n * u + dn e * k < up e * k → 0 < v → (T (isContending p) → up e * v + dn d * u ≤ up d * u + dn e * v) → NotEarly k n v p d
+late-as : (k n u : ℕ) (e : ℤ) (p : Phase) (v : ℕ) (d : ℤ) → 0 < u → n * u + dn e * k < up e * k → 0 < v
+    → (T (isContending p) → up e * v + dn d * u ≤ up d * u + dn e * v) → NotEarly k n v p d
 late-as k n u e Inactive v d h l i f = tt
 late-as k n u e Contending v d h l i f = lt-of-mul-lt-mul-left u (omega (arith, mul-le-mul-left k (f tt), mul-lt-mul-of-pos-left {k = v} l i))
 late-as k n u e NonContending v d h l i f = tt
 
 -- .. in a table that c leads
-pub late-all : {m q t : ℕ} {xs : List Thread} → Rows m q t xs → {c : ℕ} → Leads m xs c → (k n : ℕ) → T (not (early k n (at xs c .share) (at xs c .e .0))) → All (Late k n) (take m xs)
+pub late-all : {m q t : ℕ} {xs : List Thread} → Rows m q t xs → {c : ℕ} → Leads m xs c → (k n : ℕ)
+    → T (not (early k n (at xs c .share) (at xs c .e .0))) → All (Late k n) (take m xs)
 late-all {m} {q} {t} {xs} r {c} l k n b =
     all-of m xs blank (omega (arith, r .few, r .long))
     (λ j h. late-as k n (at xs c .share) (at xs c .e .0) (at xs j .phase) (at xs j .share) (at xs j .e .0) (fine-at r c (l .inside) .share-min) (nleb→lt _ _ b) (fine-at r j h .share-min) (l .first j h))
@@ -197,7 +199,7 @@ module _ (z : State) (c : ℕ) (ch : Chosen z c) (rows : Rows (z .count) (z .q) 
 
   -- ---- sums
   same-ys : (f : Thread → ℕ) → ((n : ℕ) (y : Thread) → f (loses (pos n) y) ≡ f y) → ((n : ℕ) (y : Thread) → f (gains n y) ≡ f y) → sumBy f (take m zs) ≡ sumBy f (take m xs)
-  same-ys f h g = sum-upd f (gains (q - r)) (g (q - r)) m ys c blank ∙ benefits-sum (x .app) z f h m apps xs
+  same-ys f h g = sum-store f m ys c (gains (q - r) (at ys c)) blank (g (q - r) (at ys c)) ∙ benefits-sum (x .app) z f h m apps xs
 
   same-shares : sumBy share (take m zs) ≡ sumBy share (take m xs)
   same-shares = same-ys share (λ n y. refl) (λ n y. refl)
@@ -224,7 +226,7 @@ module _ (z : State) (c : ℕ) (ch : Chosen z c) (rows : Rows (z .count) (z .q) 
   late-zs : (k n : ℕ) → T (not (early k n (x .share) (x .e .0))) → All (Late k n) (take m zs)
   late-zs k n b = all-upd (gains (q - r)) (λ y a. a) m ys c blank (benefits-all (x .app) z (Late k n) (λ n' y a. a) m apps xs (late-all rows (ch .leads) k n b))
 
-  pub charge-claims : Claims m (t + 1) zs
+  charge-claims : Claims m (t + 1) zs
   charge-claims k n k1 h =
       test (λ _. sumBy (claim (t + 1) k n) (take m zs) + k * (t + 1) * sumBy share (take m zs) ≤ n * sumBy share (take m zs)) (early k n (x .share) (x .e .0))
       (λ b. rw same-shares (early-claims k n h b (rows .claims k n k1 (omega arith))))

@@ -4,13 +4,13 @@ use mathlib.Core.Bool.{Bool, true, false, cond}
 use mathlib.Core.List.{List, [], _∷_}
 use Prim.Native.Nat.{ℕ, zero, suc, _+_, _-_}
 use lib.Dec.{eqb, ltb}
-use lib.IntN.{ℤ, pos, _-ℤ_}
+use lib.IntN.{ℤ, pos}
 use lib.Signed.{ltZ}
-use lib.ListN.{length, set}
-use Rattle.lists.specs.MapTo.{map-keeps}
+use lib.ListN.{set}
+use Rattle.lists.specs.MapTo.{mapTo, map-keeps}
 use Rattle.lists.specs.Take.{at-upd}
-use Rattle.rules.specs.Limits.{apps, nobody, maxJobs, clockEnd}
-use Rattle.rules.specs.Threads.{Thread, State, Phase, Inactive, Contending, NonContending, withJobs, blank, at, scaled, isNon, contends, idle, loses, loseAt, freeOf}
+use Rattle.rules.specs.Limits.{apps, nobody}
+use Rattle.rules.specs.Threads.{Thread, State, Phase, Inactive, Contending, NonContending, withJobs, withRows, blank, at, scaled, idle, loses, loseAt, freeOf}
 use Rattle.rules.specs.Table.{Answered}
 use Rattle.rules.specs.Completion.{goesOn, stays, ends, freed, gives, completing, afterCompletion, completion}
 use Rattle.rules.specs.Leaving.{leave, gone}
@@ -24,9 +24,10 @@ use Rattle.rules.specs.Run.{Ran, stateAfter, ran}
 use Rattle.rules.specs.Calls as calls
 use Rattle.rules.specs.Calls.{Call, apply, after}
 use Rattle.promises.specs.Cases.{by-test}
+use Rattle.promises.specs.Branches.{by-leaving, by-fitting, by-completion, by-arrival, by-drop, by-step, by-run}
 
 -- y has the row of x: application, share and period
-abbrev pub SameRow : Thread → Thread → Type 0
+abbrev SameRow : Thread → Thread → Type 0
 SameRow x y = (y .app ≡ x .app) × (y .share ≡ x .share) × (y .period ≡ x .period)
 
 -- z has the table of s
@@ -38,10 +39,10 @@ pub record SameTable (s z : State) : Type 0 where
 same-row : (x : Thread) → SameRow x x
 same-row x = (refl, refl, refl)
 
-pub same-table : (s : State) → SameTable s s
+same-table : (s : State) → SameTable s s
 same-table s = record { count = refl; q = refl; row = λ i. same-row (at (s .threads) i) }
 
-pub same-then : {s z y : State} → SameTable s z → SameTable z y → SameTable s y
+same-then : {s z y : State} → SameTable s z → SameTable z y → SameTable s y
 same-then a b = record {
   count = b .count ∙ a .count;
   q = b .q ∙ a .q;
@@ -51,12 +52,10 @@ same-then a b = record {
 -- ---- the changes of one thread
 module _ (x y : Thread) (k : SameRow x y) where
   row-leave : (t : ℕ) → SameRow x (leave t y)
-  unfolding leave
-  row-leave t = by-test (SameRow x) (isNon (y .phase)) (λ _. by-test (SameRow x) (ltZ (scaled y t) (y .w .0)) (λ _. k) (λ _. k)) (λ _. k)
+  row-leave t = by-leaving (SameRow x) t y k (λ _ _. k)
 
   row-fit : (room : ℕ) → SameRow x (fit room y)
-  unfolding fit
-  row-fit room = by-test (SameRow x) (contends y) (λ _. by-test (SameRow x) (ltZ (y .e .0 -ℤ y .w .0) (pos room)) (λ _. k) (λ _. k)) (λ _. k)
+  row-fit room = by-fitting (SameRow x) room y k (λ _ _. k)
 
   row-arrive : (t : ℕ) → SameRow x (arrive t y)
   unfolding arrive
@@ -73,7 +72,8 @@ module _ (x y : Thread) (k : SameRow x y) where
 
 -- ---- the changes of the threads
 -- one thread by a change of it
-row-set : (h : Thread → Thread) → ((x y : Thread) → SameRow x y → SameRow x (h y)) → (xs ys : List Thread) (c : ℕ) → ((i : ℕ) → SameRow (at xs i) (at ys i)) → (i : ℕ) → SameRow (at xs i) (at (set ys c (h (at ys c))) i)
+row-set : (h : Thread → Thread) → ((x y : Thread) → SameRow x y → SameRow x (h y)) → (xs ys : List Thread) (c : ℕ)
+    → ((i : ℕ) → SameRow (at xs i) (at ys i)) → (i : ℕ) → SameRow (at xs i) (at (set ys c (h (at ys c))) i)
 row-set h f xs ys c k i = at-upd {P = SameRow (at xs i)} h (f (at xs i)) ys c i blank (k i)
 
 row-lose : (z : ℤ) (xs ys : List Thread) (c : ℕ) → ((i : ℕ) → SameRow (at xs i) (at ys i)) → (i : ℕ) → SameRow (at xs i) (at (loseAt z ys c) i)
@@ -85,38 +85,50 @@ unfolding benefits
 row-benefits own s zero xs i = same-row (at xs i)
 row-benefits own s (suc a) xs i = go (eqb a own) (row-benefits own s a xs)
   where
-    go : (b : Bool) → ((i : ℕ) → SameRow (at xs i) (at (benefits own s a xs) i)) → SameRow (at xs i) (at (cond b (benefits own s a xs) (loseAt (pos (freeOf a s)) (benefits own s a xs) (beneficiary a s))) i)
+    go : (b : Bool) → ((i : ℕ) → SameRow (at xs i) (at (benefits own s a xs) i))
+        → SameRow (at xs i) (at (cond b (benefits own s a xs) (loseAt (pos (freeOf a s)) (benefits own s a xs) (beneficiary a s))) i)
     go true k = k i
     go false k = row-lose (pos (freeOf a s)) xs (benefits own s a xs) (beneficiary a s) k i
 
 -- ---- the parts of a step
+-- every thread by a change of it
+mapped-same : (s : State) (h : Thread → Thread) → ((x y : Thread) → SameRow x y → SameRow x (h y)) → SameTable s (withRows s (mapTo (s .count) h (s .threads)))
+mapped-same s h f = record {
+  count = refl;
+  q = refl;
+  row = λ i. let x = at (s .threads) i in map-keeps {P = SameRow x} (s .count) h (f x) (s .threads) i blank (same-row x);
+}
+
 gone-same : (s : State) → SameTable s (gone s)
 unfolding gone
-gone-same s = by-test (SameTable s) (s .closed) (λ _. same-table s) (λ _. record { count = refl; q = refl; row = λ i. map-keeps {P = SameRow (at (s .threads) i)} (s .count) (leave (s .clock .0)) (λ y k. row-leave (at (s .threads) i) y k (s .clock .0)) (s .threads) i blank (same-row (at (s .threads) i)) })
+gone-same s =
+    by-test (SameTable s) (s .closed) (λ _. same-table s)
+    (λ _. mapped-same s (leave (s .clock .0)) (λ x y k. row-leave x y k (s .clock .0)))
 
 fitted-same : (s : State) → SameTable s (fitted s)
 unfolding fitted
-fitted-same s = record { count = refl; q = refl; row = λ i. map-keeps {P = SameRow (at (s .threads) i)} (s .count) (fitIn s) (λ y k. row-fit (at (s .threads) i) y k _) (s .threads) i blank (same-row (at (s .threads) i)) }
+fitted-same s = mapped-same s (fitIn s) (λ x y k. row-fit x y k (roomOf s y))
 
 pub ready-same : (s : State) → SameTable s (ready s)
 ready-same s = same-then (gone-same s) (fitted-same (gone s))
 
 idle-same : (s : State) → SameTable s (moved (idled s) nobody)
 unfolding moved idled
-idle-same s = record { count = refl; q = refl; row = λ i. map-keeps {P = SameRow (at (s .threads) i)} (s .count) idle (λ y k. k) (s .threads) i blank (same-row (at (s .threads) i)) }
+idle-same s = let m = mapped-same s idle (λ x y k. k) in record { count = m .count; q = m .q; row = m .row }
 
 charge-same : (s : State) (c : ℕ) → SameTable s (moved (charged s c) c)
 unfolding moved charged
-charge-same s c = record { count = refl; q = refl; row = row-set (gains (roomOf s (at (s .threads) c))) (λ x y k. k) (s .threads) (benefited (at (s .threads) c .app) s) c (row-benefits (at (s .threads) c .app) s apps (s .threads)) }
+charge-same s c = let x = at (s .threads) c in record {
+  count = refl;
+  q = refl;
+  row = row-set (gains (roomOf s x)) (λ x y k. k) (s .threads) (benefited (x .app) s) c (row-benefits (x .app) s apps (s .threads));
+}
 
 pub step-same : (s : State) → SameTable s (stepped s .state)
-unfolding stepped
 step-same s =
-    by-test P (eqb (s .clock .0) clockEnd) (λ _. same-table s)
-    (λ _. same-then (ready-same s) (by-test (λ (r : Stepped). SameTable (ready s) (r .state)) (eqb (chosen (ready s)) nobody) (λ _. idle-same (ready s)) (λ _. charge-same (ready s) (chosen (ready s)))))
-  where
-    P : Stepped → Type 0
-    P r = SameTable s (r .state)
+    by-step s (λ (r : Stepped). SameTable s (r .state)) (λ _. same-table s)
+    (λ _ _. same-then (ready-same s) (idle-same (ready s)))
+    (λ _ _. same-then (ready-same s) (charge-same (ready s) (chosen (ready s))))
 
 pub steps-same : (n : ℕ) (s : State) → SameTable s (stateAfter n s)
 unfolding stateAfter
@@ -142,33 +154,25 @@ module _ (s : State) where
   Same r = SameTable s (r .state)
 
   completion-same : (i : ℕ) → SameTable s (completion s i .state)
-  unfolding completion afterCompletion
+  unfolding afterCompletion
   completion-same i =
-      by-test Same (ltb i (s .count))
-      (λ _. by-test Same (s .closed) (λ _. same-table s)
-      (λ _. by-test Same (eqb i (s .had)) (λ _. by-test Same (s .completed) (λ _. same-table s) (λ _. record { count = refl; q = refl; row = completing-same (s .clock .0) (s .count) i (s .threads) })) (λ _. same-table s)))
-      (λ _. same-table s)
+      by-completion s Same i (λ _. same-table s)
+      (λ _ _ _ _. record { count = refl; q = refl; row = completing-same (s .clock .0) (s .count) i (s .threads) })
 
   arrival-same : (i : ℕ) → SameTable s (arrival s i .state)
-  unfolding arrival
-  arrival-same i =
-      by-test Same (ltb i (s .count))
-      (λ _. by-test Same (ltb (at (s .threads) i .jobs) maxJobs) (λ _. let g = gone-same s in record { count = g .count; q = g .q; row = row-set (arrive (gone s .clock .0)) (λ x y k. row-arrive x y k (gone s .clock .0)) (s .threads) (gone s .threads) i (g .row) }) (λ _. same-table s))
-      (λ _. same-table s)
+  arrival-same i = by-arrival s Same i (λ _. same-table s) (λ _ _. let g = gone-same s in record {
+    count = g .count;
+    q = g .q;
+    row = row-set (arrive (gone s .clock .0)) (λ x y k. row-arrive x y k (gone s .clock .0)) (s .threads) (gone s .threads) i (g .row);
+  })
 
   drop-same : (i : ℕ) → SameTable s (dropped s i .state)
-  unfolding dropped
-  drop-same i = by-test Same (ltb i (s .count)) (λ _. record { count = refl; q = refl; row = row-set headOnly row-head (s .threads) (s .threads) i (λ j. same-row (at (s .threads) j)) }) (λ _. same-table s)
+  drop-same i =
+      by-drop s Same i (λ _. same-table s)
+      (λ _. record { count = refl; q = refl; row = row-set headOnly row-head (s .threads) (s .threads) i (λ j. same-row (at (s .threads) j)) })
 
   run-same : (to : ℕ) (row : List ℕ) → SameTable s (ran s to row .result .state)
-  unfolding ran
-  run-same to row =
-      by-test P (ltb to (s .clock .0)) (λ _. same-table s)
-      (λ _. by-test P (ltb clockEnd to) (λ _. same-table s)
-      (λ _. by-test P (ltb (length row) (to - s .clock .0)) (λ _. same-table s) (λ _. steps-same (to - s .clock .0) s)))
-    where
-      P : Ran → Type 0
-      P r = SameTable s (r .result .state)
+  run-same to row = by-run s (λ (r : Ran). SameTable s (r .result .state)) to row (λ _. same-table s) (steps-same (to - s .clock .0) s)
 
 pub call-same : (c : Call) (s : State) → SameTable s (apply s c)
 call-same (calls.complete i) s = completion-same s i

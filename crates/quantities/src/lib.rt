@@ -110,8 +110,9 @@ pub struct Answered {
     pub state: State,
 }
 
-// What stands at the start of the rest of an input: nothing, a part of a record, or a whole record
-// with its kind and its length in bytes, the two of the length among them.
+// What stands at the start of the rest of an input: nothing; no whole record, since the input ends
+// inside of it or its length is below 2; or a whole record with its kind and its length in bytes,
+// the two of the length among them.
 pub enum Frame {
     Ended,
     Cut,

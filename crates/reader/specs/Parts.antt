@@ -137,9 +137,9 @@ module _ (r : Reading) (e : Record) where
             ∙ answered
 
 -- ---- the cases of a head
-head-first : (q n : ℕ) → headAnswer q n ≡ Done → readAs Done (headed q n fresh) fresh ≡ recordRead fresh (Head q n)
+head-first : (q n : ℕ) → headAnswer q n ≡ Done → readAs Done (headed q n) fresh ≡ recordRead fresh (Head q n)
 unfolding recordRead
-head-first q n d = ap (λ (a : Answer). readAs a (headed q n fresh) fresh) (sym d)
+head-first q n d = ap (λ (a : Answer). readAs a (headed q n) fresh) (sym d)
 
 -- the reading with a new head of its table
 abbrev pub withHead : ℕ → ℕ → Reading → Reading

@@ -9,9 +9,9 @@ use Rattle.rules.specs.Limits.{apps}
 use Rattle.rules.specs.Threads.{Thread, State, with, withRows, at, activeIn, freeOf, earliest, loseAt}
 use Rattle.rules.specs.Fitting.{roomOf}
 
--- r more of W
+-- n more of W
 abbrev pub gains : ℕ → Thread → Thread
-gains r x = with x (x .phase) (x .w .0 +ℤ pos r) (x .e .0)
+gains n x = with x (x .phase) (x .w .0 +ℤ pos n) (x .e .0)
 
 -- "the active thread with the earliest deadline (lowest number on a tie), contending or not" of the application a
 abbrev pub beneficiary : ℕ → State → ℕ
@@ -30,7 +30,7 @@ benefited own s = benefits own s apps (s .threads)
 
 -- "The chosen thread's W grows by Q − r of its application."
 abbrev pub grown : ℕ → ℕ → List Thread → List Thread
-grown c r xs = set xs c (gains r (at xs c))
+grown c room xs = set xs c (gains room (at xs c))
 
 -- the charge of a tick of thread c
 unfoldable pub charged : State → ℕ → State

@@ -27,18 +27,18 @@ abbrev pub readOn : Answer → Rest → Reading → ℕ → ℕ → List ℕ →
 readOn Done rest r b n s = rest r (b + n) (drop n s)
 readOn (Refused m) rest r b n s = stopped (Refused m) b r
 
--- 14 "input ends inside a record"
+-- 14 "input ends inside a record", "length below 2"
 abbrev pub readFrame : Rest → Reading → ℕ → List ℕ → Frame → InputRead
 readFrame rest r b s Ended = endRead r b
 readFrame rest r b s Cut = stopped (Refused 14) b r
 readFrame rest r b s (Whole kind n) = readOn (read r kind (bodyOf s n) .answer) rest (read r kind (bodyOf s n) .reading) b n s
 
--- reading from the byte b on, where the rest s of the input has at most k records
+-- reading from the byte b on, where the rest s of the input has at most k bytes
 unfoldable pub readFrom : ℕ → Rest
 readFrom zero r b s = endRead r b
 readFrom (suc k) r b s = readFrame (λ r′ b′ s′. readFrom k r′ b′ s′) r b s (frameOf s)
 
--- reading an input; it has fewer records than bytes
+-- reading an input
 unfoldable pub readInput : List ℕ → InputRead
 readInput s = readFrom (length s) fresh 0 s
 

@@ -109,11 +109,11 @@ listFrame rest r b s Ended = ending r b
 listFrame rest r b s Cut = refusalLine 14 b
 listFrame rest r b s (Whole kind n) = listDecoded rest r b n s (decoded kind (bodyOf s n))
 
--- the listing from the byte b on, where the rest s of the input has at most k records
+-- the listing from the byte b on, where the rest s of the input has at most k bytes
 unfoldable pub listFrom : ℕ → Rest
 listFrom zero r b s = ending r b
 listFrom (suc k) r b s = listFrame (λ r′ b′ s′. listFrom k r′ b′ s′) r b s (frameOf s)
 
--- the listing of an input; it has fewer records than bytes
+-- the listing of an input
 unfoldable pub listing : List ℕ → List ℕ
 listing s = heading ++ listFrom (length s) fresh 0 s

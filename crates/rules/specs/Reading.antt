@@ -47,8 +47,8 @@ readAs Done new old = record { answer = Done; reading = new }
 readAs (Refused n) new old = record { answer = Refused n; reading = old }
 
 -- a head begins the table
-abbrev pub headed : ℕ → ℕ → Reading → Reading
-headed q n r = record { table = record { q = q; threads = n; rows = replicate maxThreads noRow }; rows = 0; state = noSchedule }
+abbrev pub headed : ℕ → ℕ → Reading
+headed q n = record { table = record { q = q; threads = n; rows = replicate maxThreads noRow }; rows = 0; state = noSchedule }
 
 -- a row joins the table, as it is written
 abbrev pub withRow : Table → ℕ → table.Row → Table
@@ -120,7 +120,7 @@ eventRead r e = readAs (first (beforeTicks (r .state) e) (eventOf (r .state) e .
 
 -- a record in its place
 abbrev pub placedRead : Reading → Record → Read
-placedRead r (Head q n) = readAs (headAnswer q n) (headed q n r) r
+placedRead r (Head q n) = readAs (headAnswer q n) (headed q n) r
 placedRead r (Row x) = readAs (rowAnswer usualPeriod (r .table .q) (sharesTo (r .table .rows) (r .rows)) x) (rowed x r) r
 placedRead r (Arrival m i) = eventRead r (Arrival m i)
 placedRead r (Completion m i) = eventRead r (Completion m i)

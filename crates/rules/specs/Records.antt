@@ -20,8 +20,8 @@ abbrev pub le32 : List ℕ → ℕ → ℕ
 le32 s k = le16 s k + 65536 * le16 s (k + 2)
 
 -- "Length first, two bytes, little-endian, counting the bytes after itself; then a two-byte kind; then the body."
--- s is the rest of the input: it ends between records, "inside a record" or with a "length below 2", or begins with a whole
--- record
+-- s is the rest of the input: nothing; no whole record, since it ends "inside a record" or has a "length below 2"; or a whole
+-- record first
 unfoldable pub frameOf : List ℕ → Frame
 frameOf s =
     cond (eqb (length s) 0) Ended

@@ -99,10 +99,11 @@ isEarlier Later = false
 abbrev pub sooner : Thread → Thread → Bool
 sooner x y = isEarlier (compare x y)
 
--- "the earliest deadline; lowest number on a tie": of the first n threads those that pass the test p; `nobody` if none does
+-- b is the earliest so far: thread i takes its place if it passes the test p and its deadline is earlier
 abbrev pub closer : (Thread → Bool) → List Thread → ℕ → ℕ → ℕ
 closer p xs b i = cond (p (at xs i)) (cond (eqb b nobody) i (cond (sooner (at xs i) (at xs b)) i b)) b
 
+-- "the earliest deadline; lowest number on a tie": of the first n threads those that pass the test p; `nobody` if none does
 unfoldable pub earliest : (Thread → Bool) → ℕ → List Thread → ℕ
 earliest p zero xs = nobody
 earliest p (suc i) xs = closer p xs (earliest p i xs) i

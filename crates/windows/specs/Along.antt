@@ -2,13 +2,13 @@
 use mathlib.Core.Path.{_≡_, refl, sym, ap, _∙_, subst}
 use mathlib.Core.Bool.{Bool}
 use mathlib.Core.List.{List, [], _++_, append-nil, append-assoc}
-use Prim.Native.Nat.{ℕ, _+_, _-_, _≤_, _<_}
+use Prim.Native.Nat.{ℕ, _+_, _-_, _≤_}
 use native.Mathlib.Nat.{add-zero}
 use native.Mathlib.Omega.{arith}
 use lib.ListN.{length, drop, length-drop, length-append}
 use lib.Seq.{sets, length-sets, drop-drop}
 use Rattle.lists.specs.Sets.{sets-chain}
-use Rattle.windows.specs.Advance.{Progress, Move, stays, moves, move, Advanced, still, joined, advance}
+use Rattle.windows.specs.Advance.{Progress, stays, moves, move, Advanced, joined, advance}
 use Rattle.windows.specs.Goes.{Less, move-less, advance-moves, advance-stays}
 
 -- where a call stands: the byte of the window, the byte of the output, and the progress
@@ -41,7 +41,8 @@ module _ (last : Bool) (w : List ℕ) where
     goes = joined-none (from - from) (omega arith) (advance last (length out - used) p (drop from w));
   }
 
-  pub along-then : {out₀ out₁ out₂ : List ℕ} {f₀ f₁ f₂ u₀ u₁ u₂ : ℕ} {p₀ p₁ p₂ : Progress} → Along last w out₀ f₀ u₀ p₀ out₁ f₁ u₁ p₁ → Along last w out₁ f₁ u₁ p₁ out₂ f₂ u₂ p₂ → Along last w out₀ f₀ u₀ p₀ out₂ f₂ u₂ p₂
+  pub along-then : {out₀ out₁ out₂ : List ℕ} {f₀ f₁ f₂ u₀ u₁ u₂ : ℕ} {p₀ p₁ p₂ : Progress} → Along last w out₀ f₀ u₀ p₀ out₁ f₁ u₁ p₁
+      → Along last w out₁ f₁ u₁ p₁ out₂ f₂ u₂ p₂ → Along last w out₀ f₀ u₀ p₀ out₂ f₂ u₂ p₂
   along-then {out₀} {out₁} {out₂} {f₀} {f₁} {f₂} {u₀} {u₁} {u₂} {p₀} {p₁} {p₂} a b = record {
     text = a .text ++ b .text;
     stored = b .stored ∙ ap (λ (l : List ℕ). sets l u₁ (b .text)) (a .stored) ∙ ap (λ (k : ℕ). sets (sets out₀ u₀ (a .text)) k (b .text)) (a .writes) ∙ sets-chain out₀ u₀ (a .text) (b .text);
@@ -62,7 +63,9 @@ module _ (last : Bool) (w : List ℕ) where
       long = ap length (a .stored) ∙ length-sets out₀ u₀ (a .text)
 
   -- one move
-  pub along-move : (out : List ℕ) (from used : ℕ) (p : Progress) → from ≤ length w → (n : ℕ) (t : List ℕ) (q : Progress) → move last (length out - used) p (drop from w) ≡ moves n t q → used + length t ≤ length out → Along last w out from used p (sets out used t) (from + n) (used + length t) q
+  pub along-move : (out : List ℕ) (from used : ℕ) (p : Progress) → from ≤ length w → (n : ℕ) (t : List ℕ) (q : Progress)
+      → move last (length out - used) p (drop from w) ≡ moves n t q → used + length t ≤ length out
+      → Along last w out from used p (sets out used t) (from + n) (used + length t) q
   along-move out from used p h n t q e fits = record {
     text = t;
     stored = refl;
@@ -81,7 +84,9 @@ module _ (last : Bool) (w : List ℕ) where
       less = subst (Less (length out - used) (drop from w)) e (move-less last (length out - used) p (drop from w))
 
   -- a call that has come to where there is no move
-  pub along-end : (out out′ : List ℕ) (from used : ℕ) (p q : Progress) → Along last w out 0 0 p out′ from used q → move last (length out - used) q (drop from w) ≡ stays → (advance last (length out) p w .taken ≡ from) × (length (advance last (length out) p w .text) ≡ used) × (advance last (length out) p w .progress ≡ q) × (out′ ≡ sets out 0 (advance last (length out) p w .text))
+  pub along-end : (out out′ : List ℕ) (from used : ℕ) (p q : Progress) → Along last w out 0 0 p out′ from used q
+      → move last (length out - used) q (drop from w) ≡ stays
+      → (advance last (length out) p w .taken ≡ from) × (length (advance last (length out) p w .text) ≡ used) × (advance last (length out) p w .progress ≡ q) × (out′ ≡ sets out 0 (advance last (length out) p w .text))
   along-end out out′ from used p q a e = rw is (refl, omega (arith, a .writes), refl, a .stored)
     where
       is : advance last (length out) p w ≡ record { taken = from; text = a .text; progress = q }

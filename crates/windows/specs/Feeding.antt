@@ -5,10 +5,11 @@ use mathlib.Core.List.{List, [], _∷_, _++_, append-nil, append-assoc}
 use Prim.Native.Nat.{ℕ, zero, suc, _+_, _-_, _≤_, _<_}
 use native.Mathlib.Omega.{arith}
 use borrow.Author.Tests.{leb-true, eq-eqb, ne-eqb}
-use lib.Dec.{eqb, ltb, leb}
+use lib.Dec.{ltb, leb}
 use lib.ListN.{length, getD, take, drop, length-drop, length-append, take-append-drop, drop-of-length-le}
-use lib.Seq.{drop-append-le, drop-drop, getD-drop, getD-take}
+use lib.Seq.{drop-append-le, drop-drop, getD-drop}
 use Rattle.rules.specs.Table.{Answer, Done, Refused}
+use Rattle.rules.specs.Threads.{State}
 use Rattle.rules.specs.Step.{stepped}
 use Rattle.rules.specs.Records.{Record, Decoded, Known, Whole, frameOf, bodyOf, decoded, le16}
 use Rattle.rules.specs.Records as records
@@ -18,7 +19,7 @@ use Rattle.promises.specs.Cases.{by-test}
 use Rattle.windows.specs.Frames.{Shown, shown, none, bad, part, full, ended, grows-bad, grows-full, grows-body}
 use Rattle.windows.specs.Ticks.{lines-first, due-after, onward-after}
 use Rattle.windows.specs.Fuel.{list-any, list-open}
-use Rattle.windows.specs.Advance.{Progress, longest, widest, farthest, begun, finished, went, ticked, Move, stays, moves, stops, readMove, recordMove, decodedMove, frameMove, move, Advanced, still, joined, moved, advanced, advance}
+use Rattle.windows.specs.Advance.{Progress, longest, widest, farthest, begun, finished, ticked, Move, stays, moves, stops, readMove, recordMove, decodedMove, frameMove, move, Advanced, moved, advanced, advance}
 
 -- what is still to be written, from a progress and the rest of the input
 abbrev pub rest : Progress → List ℕ → List ℕ
@@ -28,13 +29,13 @@ rest p s = cond (p .done) [] (listFrom (length s) (p .reading) (p .place) s)
 abbrev pub Bytes : List ℕ → Type 0
 Bytes s = (i : ℕ) → getD s i 0 < 256
 
-pub take-bytes : (m : ℕ) (s : List ℕ) → Bytes s → Bytes (take m s)
+take-bytes : (m : ℕ) (s : List ℕ) → Bytes s → Bytes (take m s)
 take-bytes zero s b i = omega arith
 take-bytes (suc m) [] b i = omega arith
 take-bytes (suc m) (x ∷ s) b zero = b 0
 take-bytes (suc m) (x ∷ s) b (suc i) = take-bytes m s (λ j. b (suc j)) i
 
-pub drop-bytes : (m : ℕ) (s : List ℕ) → Bytes s → Bytes (drop m s)
+drop-bytes : (m : ℕ) (s : List ℕ) → Bytes s → Bytes (drop m s)
 drop-bytes m s b i = subst (λ (x : ℕ). x < 256) (sym (getD-drop m s i 0)) (b (m + i))
 
 -- the move keeps to the listing of the input s, of which w is a window
@@ -44,7 +45,7 @@ Kept p w s (moves n t q) = (n ≤ length w) × (rest p s ≡ t ++ rest q (drop n
 
 -- ---- one move of a listing that is not done
 module _ (p : Progress) (on-going : p .done ≡ false) (w s : List ℕ) where
-  opened : rest p s ≡ listFrame (λ r b v. listFrom (length s) r b v) (p .reading) (p .place) s (frameOf s)
+  opened : rest p s ≡ listFrame (listFrom (length s)) (p .reading) (p .place) s (frameOf s)
   opened = rw on-going (list-open (p .reading) (p .place) s)
 
   -- the last line
@@ -58,32 +59,40 @@ module _ (p : Progress) (on-going : p .done ≡ false) (w s : List ℕ) where
     refused-kept m d = last-line (refusalLine m (p .place)) (opened ∙ rw (frame, d))
 
     module _ (e : Record) (known : decoded kind (bodyOf s n) ≡ Known e) where
-      known-rest : (q : Progress) → q .done ≡ false → rest q s ≡ linesBefore (q .reading) e ++ onward (recordRead (q .reading) e .answer) (λ r b v. listFrom (length s) r b v) (recordRead (q .reading) e .reading) (q .place) n s
+      -- what is written after the ticks before it
+      abbrev then-on : Progress → List ℕ
+      then-on q = onward (recordRead (q .reading) e .answer) (listFrom (length s)) (recordRead (q .reading) e .reading) (q .place) n s
+
+      known-rest : (q : Progress) → q .done ≡ false → rest q s ≡ linesBefore (q .reading) e ++ then-on q
       known-rest q o = rw o (list-open (q .reading) (q .place) s ∙ rw (frame, known))
 
       -- no tick is due
-      read-kept : ticksDue (p .reading) e ≡ 0 → (a : Answer) (r : Reading) → recordRead (p .reading) e .answer ≡ a → recordRead (p .reading) e .reading ≡ r → Kept p w s (readMove p n a r)
+      read-kept : ticksDue (p .reading) e ≡ 0 → (a : Answer) (r : Reading) → recordRead (p .reading) e .answer ≡ a
+          → recordRead (p .reading) e .reading ≡ r → Kept p w s (readMove p n a r)
       unfolding tickLines
       read-kept zero-due Done r ea er = (within, known-rest p on-going ∙ rw (zero-due, ea, er) (rw on-going (list-any (length s) (length (drop n s)) r (p .place + n) (drop n s) (omega (arith, length-drop n s)) (omega arith))))
       read-kept zero-due (Refused m) r ea er = last-line (refusalLine m (p .place)) (known-rest p on-going ∙ rw (zero-due, ea))
 
       -- a tick is due
       tick-kept : (d : ℕ) → ticksDue (p .reading) e ≡ suc d → Kept p w s (moves 0 (tickLine (p .reading .state)) (ticked p))
-      tick-kept d due = (omega arith, known-rest p on-going ∙ before ∙ ap (λ (t : List ℕ). tickLine (p .reading .state) ++ t) (sym (known-rest (ticked p) on-going ∙ after)))
+      tick-kept d due = (omega arith, known-rest p on-going ∙ before ∙ ap (λ (t : List ℕ). tickLine x ++ t) (sym (known-rest (ticked p) on-going ∙ after)))
         where
-          on : List ℕ
-          on = onward (recordRead (p .reading) e .answer) (λ r b v. listFrom (length s) r b v) (recordRead (p .reading) e .reading) (p .place) n s
+          x : State
+          x = p .reading .state
 
-          before : linesBefore (p .reading) e ++ on ≡ tickLine (p .reading .state) ++ (tickLines d (stepped (p .reading .state) .state) ++ on)
+          z : State
+          z = stepped x .state
+
+          before : linesBefore (p .reading) e ++ then-on p ≡ tickLine x ++ (tickLines d z ++ then-on p)
           before =
-              ap (λ (k : ℕ). tickLines k (p .reading .state) ++ on) due
-              ∙ ap (λ (t : List ℕ). t ++ on) (lines-first d (p .reading .state))
-              ∙ append-assoc (tickLine (p .reading .state)) (tickLines d (stepped (p .reading .state) .state)) on
+              ap (λ (k : ℕ). tickLines k x ++ then-on p) due
+              ∙ ap (λ (t : List ℕ). t ++ then-on p) (lines-first d x)
+              ∙ append-assoc (tickLine x) (tickLines d z) (then-on p)
 
-          after : linesBefore (ticked p .reading) e ++ onward (recordRead (ticked p .reading) e .answer) (λ r b v. listFrom (length s) r b v) (recordRead (ticked p .reading) e .reading) (p .place) n s ≡ tickLines d (stepped (p .reading .state) .state) ++ on
+          after : linesBefore (ticked p .reading) e ++ then-on (ticked p) ≡ tickLines d z ++ then-on p
           after =
-              ap (λ (k : ℕ). tickLines k (stepped (p .reading .state) .state) ++ onward (recordRead (ticked p .reading) e .answer) (λ r b v. listFrom (length s) r b v) (recordRead (ticked p .reading) e .reading) (p .place) n s) (due-after (p .reading) e d due)
-              ∙ ap (λ (t : List ℕ). tickLines d (stepped (p .reading .state) .state) ++ t) (onward-after (p .reading) e d due (λ r b v. listFrom (length s) r b v) (p .place) n s)
+              ap (λ (k : ℕ). tickLines k z ++ then-on (ticked p)) (due-after (p .reading) e d due)
+              ∙ ap (λ (t : List ℕ). tickLines d z ++ t) (onward-after (p .reading) e d due (listFrom (length s)) (p .place) n s)
 
       known-kept : Kept p w s (recordMove p n e)
       known-kept = by (ticksDue (p .reading) e) refl
@@ -113,7 +122,8 @@ module _ (last : Bool) (p : Progress) (w tail : List ℕ) (end : last ≡ true �
   ended-kept o h true l = last-line p o w (w ++ tail) (ending (p .reading) (p .place)) (opened p o w (w ++ tail) ∙ rw (all-of-it l, ended w h))
 
   -- where the window shows that no record can come, or the input ends
-  cut-kept : p .done ≡ false → ((last ≡ true) → frameOf (w ++ tail) ≡ records.Cut) → (widest ≤ length w → frameOf (w ++ tail) ≡ records.Cut) → (l : Bool) → last ≡ l → Kept p w (w ++ tail) (cond (l || leb widest (length w)) (stops p 14) stays)
+  cut-kept : p .done ≡ false → ((last ≡ true) → frameOf (w ++ tail) ≡ records.Cut) → (widest ≤ length w → frameOf (w ++ tail) ≡ records.Cut)
+      → (l : Bool) → last ≡ l → Kept p w (w ++ tail) (cond (l || leb widest (length w)) (stops p 14) stays)
   cut-kept o f g true l = last-line p o w (w ++ tail) (refusalLine 14 (p .place)) (opened p o w (w ++ tail) ∙ rw (f l))
   cut-kept o f g false l = by-test (λ (m : Move). Kept p w (w ++ tail) m) (leb widest (length w)) (λ h. last-line p o w (w ++ tail) (refusalLine 14 (p .place)) (opened p o w (w ++ tail) ∙ rw (g (leb-true _ _ h)))) (λ _. tt)
 
@@ -128,7 +138,7 @@ module _ (last : Bool) (p : Progress) (w tail : List ℕ) (end : last ≡ true �
           rw (e, ← grows-body w tail (2 + le16 w 0) (omega arith) h)
           (whole-kept p o w (w ++ tail) (le16 w 2) (2 + le16 w 0) (omega arith) h (omega (arith, h, length-append w tail)) (grows-full w tail least h))
 
-  pub move-kept : (room : ℕ) → Kept p w (w ++ tail) (move last room p w)
+  move-kept : (room : ℕ) → Kept p w (w ++ tail) (move last room p w)
   unfolding move
   move-kept room =
       by-test (λ (m : Move). Kept p w (w ++ tail) m) (p .done) (λ _. tt)
@@ -137,7 +147,11 @@ module _ (last : Bool) (p : Progress) (w tail : List ℕ) (end : last ≡ true �
       (λ _. frame-kept o)))
 
 -- ---- a call
-pub advanced-kept : (k : ℕ) (last : Bool) (room : ℕ) (p : Progress) (w tail : List ℕ) → (last ≡ true → tail ≡ []) → Bytes w → (advanced k last room p w .taken ≤ length w) × (rest p (w ++ tail) ≡ advanced k last room p w .text ++ rest (advanced k last room p w .progress) (drop (advanced k last room p w .taken) (w ++ tail)))
+-- what it brings keeps to the listing of the input s, of which w is a window
+abbrev Brought : Progress → List ℕ → List ℕ → Advanced → Type 0
+Brought p w s a = (a .taken ≤ length w) × (rest p s ≡ a .text ++ rest (a .progress) (drop (a .taken) s))
+
+advanced-kept : (k : ℕ) (last : Bool) (room : ℕ) (p : Progress) (w tail : List ℕ) → (last ≡ true → tail ≡ []) → Bytes w → Brought p w (w ++ tail) (advanced k last room p w)
 unfolding advanced
 advanced-kept zero last room p w tail end bytes = (omega arith, refl)
 advanced-kept (suc k) last room p w tail end bytes = by (move last room p w) (move-kept last p w tail end bytes room) (λ r q v e. advanced-kept k last r q v tail end e)
@@ -146,9 +160,9 @@ advanced-kept (suc k) last room p w tail end bytes = by (move last room p w) (mo
     bring m = moved (λ r q v. advanced k last r q v) room p w m
 
     Before : Type 0
-    Before = (r : ℕ) (q : Progress) (v : List ℕ) → Bytes v → (advanced k last r q v .taken ≤ length v) × (rest q (v ++ tail) ≡ advanced k last r q v .text ++ rest (advanced k last r q v .progress) (drop (advanced k last r q v .taken) (v ++ tail)))
+    Before = (r : ℕ) (q : Progress) (v : List ℕ) → Bytes v → Brought q v (v ++ tail) (advanced k last r q v)
 
-    by : (m : Move) → Kept p w (w ++ tail) m → Before → (bring m .taken ≤ length w) × (rest p (w ++ tail) ≡ bring m .text ++ rest (bring m .progress) (drop (bring m .taken) (w ++ tail)))
+    by : (m : Move) → Kept p w (w ++ tail) m → Before → Brought p w (w ++ tail) (bring m)
     by stays h before = (omega arith, refl)
     by (moves n t q) h before =
         let a = advanced k last (room - length t) q (drop n w) in
@@ -191,7 +205,7 @@ Honest p s [] = Unit
 Honest p s (f ∷ fs) = (f .last ≡ true → length s ≤ f .size) × Honest (turn p s f .progress) (drop (turn p s f .taken) s) fs
 
 -- what was written is how the rest of the listing begins, and what is still to be written is how it goes on
-pub feeding : (fs : List Feed) (p : Progress) (s : List ℕ) → Bytes s → Honest p s fs → rest p s ≡ written p s fs ++ rest (comes-to p s fs) (leaves p s fs)
+feeding : (fs : List Feed) (p : Progress) (s : List ℕ) → Bytes s → Honest p s fs → rest p s ≡ written p s fs ++ rest (comes-to p s fs) (leaves p s fs)
 unfolding written leaves comes-to Honest advance
 feeding [] p s bytes h = refl
 feeding (f ∷ fs) p s bytes h =

@@ -1,5 +1,5 @@
 -- The listing of an input has enough steps: more of them change nothing.
-use mathlib.Core.Path.{_≡_, refl, sym, ap, _∙_}
+use mathlib.Core.Path.{_≡_, refl, sym, ap}
 use mathlib.Core.List.{List, _++_}
 use Prim.Native.Nat.{ℕ, zero, suc, _+_, _≤_, _<_}
 use native.Mathlib.Omega.{arith}
@@ -44,6 +44,6 @@ list-any (suc k) zero r b s h l = list-none k r b s (omega arith)
 list-any (suc k) (suc m) r b s h l = frame-same _ _ r b s (λ r′ b′ s′ j. list-any k m r′ b′ s′ (omega arith) (omega arith))
 
 -- the listing of a rest, by what stands at its start
-pub list-open : (r : Reading) (b : ℕ) (s : List ℕ) → listFrom (length s) r b s ≡ listFrame (λ r′ b′ s′. listFrom (length s) r′ b′ s′) r b s (frameOf s)
+pub list-open : (r : Reading) (b : ℕ) (s : List ℕ) → listFrom (length s) r b s ≡ listFrame (listFrom (length s)) r b s (frameOf s)
 unfolding listFrom
 list-open r b s = list-any (length s) (suc (length s)) r b s (omega arith) (omega arith)

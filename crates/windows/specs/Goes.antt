@@ -1,7 +1,7 @@
 -- Every move takes a byte or writes one, so that a call ends; and a call with room and a wide enough window goes on.
 use mathlib.Core.Path.{_≡_, refl, sym, ap, _∙_, subst}
 use mathlib.Core.Bool.{Bool, true, false, cond, _||_}
-use mathlib.Core.List.{List, [], _∷_, _++_, append-assoc}
+use mathlib.Core.List.{List, [], _∷_, _++_}
 use Prim.Native.Nat.{ℕ, zero, suc, _+_, _-_, _≤_, _<_}
 use native.Mathlib.Omega.{arith}
 use borrow.Author.Tests.{ltb-true, ltb-false, le-leb, eq-eqb, ne-eqb}
@@ -10,20 +10,19 @@ use lib.ListN.{length, drop, length-drop, length-append}
 use Rattle.rules.specs.Limits.{nobody, clockEnd}
 use Rattle.rules.specs.Threads.{State}
 use Rattle.rules.specs.Table.{Answer, Done, Refused}
-use Rattle.rules.specs.Step.{Outcome, Grant, Idle, Stepped, stepped}
+use Rattle.rules.specs.Step.{Grant, Idle, Stepped, stepped}
 use Rattle.rules.specs.Records.{Record, Decoded, Known, frameOf, bodyOf, decoded, le16}
 use Rattle.rules.specs.Records as records
 use Rattle.rules.specs.Reading.{Reading, atEvents, ticksDue, recordRead}
-use Rattle.rules.specs.Listing.{bytes, decimal, line, tickLineAs, tickLine, refusalLine, endLine, ending}
+use Rattle.rules.specs.Listing.{bytes, decimal, line, tickLineAs, tickLine, refusalLine, ending}
 use Rattle.promises.specs.Cases.{by-test, true-false}
-use Rattle.promises.specs.Taken.{outcomeTo, step-by}
+use Rattle.promises.specs.Taken.{step-by}
 use Rattle.windows.specs.Frames.{Shown, shown, none, bad, part, full}
 use Rattle.windows.specs.Ticks.{before-end}
-use Rattle.windows.specs.Advance.{Progress, longest, widest, farthest, finished, ticked, Move, stays, moves, stops, readMove, recordMove, decodedMove, frameMove, move, Advanced, still, joined, moved, advanced, advance}
-use Rattle.windows.specs.Feeding.{Bytes}
+use Rattle.windows.specs.Advance.{Progress, longest, widest, farthest, finished, ticked, Move, stays, moves, stops, readMove, recordMove, decodedMove, frameMove, move, still, joined, moved, advanced, advance}
 
 -- ---- a line is never empty
-pub line-some : (ws : List (List ℕ)) → 1 ≤ length (line ws)
+line-some : (ws : List (List ℕ)) → 1 ≤ length (line ws)
 unfolding line bytes
 line-some [] = omega arith
 line-some (w ∷ []) = omega (arith, length-append w (bytes "\n"))
@@ -92,18 +91,21 @@ move-less last room p w =
     (λ _. frame-less room (ltb-false _ _ r) p w last)))
 
 -- ---- more moves than there is room and window change nothing
-pub advanced-any : (k m : ℕ) (last : Bool) (room : ℕ) (p : Progress) (w : List ℕ) → room + length w < k → room + length w < m → advanced k last room p w ≡ advanced m last room p w
+advanced-any : (k m : ℕ) (last : Bool) (room : ℕ) (p : Progress) (w : List ℕ) → room + length w < k → room + length w < m → advanced k last room p w ≡ advanced m last room p w
 unfolding advanced
 advanced-any zero m last room p w h l = absurd (omega arith)
 advanced-any (suc k) zero last room p w h l = absurd (omega arith)
 advanced-any (suc k) (suc m) last room p w h l = by (move last room p w) (move-less last room p w) (λ r q v a b. advanced-any k m last r q v a b)
   where
-    by : (x : Move) → Less room w x → ((r : ℕ) (q : Progress) (v : List ℕ) → r + length v < k → r + length v < m → advanced k last r q v ≡ advanced m last r q v) → moved (λ r q v. advanced k last r q v) room p w x ≡ moved (λ r q v. advanced m last r q v) room p w x
+    by : (x : Move) → Less room w x
+        → ((r : ℕ) (q : Progress) (v : List ℕ) → r + length v < k → r + length v < m → advanced k last r q v ≡ advanced m last r q v)
+        → moved (λ r q v. advanced k last r q v) room p w x ≡ moved (λ r q v. advanced m last r q v) room p w x
     by stays f on = refl
     by (moves n t q) f on = ap (joined n t) (on (room - length t) q (drop n w) (omega (arith, f .1, length-drop n w)) (omega (arith, f .1, length-drop n w)))
 
 -- a call goes on from move to move
-pub advance-moves : (last : Bool) (room : ℕ) (p : Progress) (w : List ℕ) (n : ℕ) (t : List ℕ) (q : Progress) → move last room p w ≡ moves n t q → advance last room p w ≡ joined n t (advance last (room - length t) q (drop n w))
+pub advance-moves : (last : Bool) (room : ℕ) (p : Progress) (w : List ℕ) (n : ℕ) (t : List ℕ) (q : Progress) → move last room p w ≡ moves n t q
+    → advance last room p w ≡ joined n t (advance last (room - length t) q (drop n w))
 unfolding advance advanced
 advance-moves last room p w n t q e =
     advanced-any (room + length w + 1) (suc (room + length w + 1)) last room p w (omega arith) (omega arith)
@@ -123,10 +125,7 @@ abbrev Goes : Move → Type 0
 Goes stays = ⊥
 Goes (moves n t q) = Unit
 
-module _ (last : Bool) (p : Progress) (w : List ℕ) (byte : Bytes w) where
-  widest-max : le16 w 0 < 65536
-  widest-max = let a = byte 0 in let b = byte 1 in omega arith
-
+module _ (last : Bool) (p : Progress) (w : List ℕ) where
   read-goes : (n : ℕ) (a : Answer) (r : Reading) → Goes (readMove p n a r)
   read-goes n Done r = tt
   read-goes n (Refused m) r = tt
@@ -161,7 +160,8 @@ module _ (last : Bool) (p : Progress) (w : List ℕ) (byte : Bytes w) where
       (λ _. frame-goes k)))
 
   -- .. it takes a byte or writes one
-  pub goes-on : (room : ℕ) → p .done ≡ false → longest ≤ room → p .place ≤ farthest → (last ≡ false → widest ≤ length w) → 1 ≤ advance last room p w .taken + length (advance last room p w .text)
+  pub goes-on : (room : ℕ) → p .done ≡ false → longest ≤ room → p .place ≤ farthest → (last ≡ false → widest ≤ length w)
+      → 1 ≤ advance last room p w .taken + length (advance last room p w .text)
   goes-on room d h f k = by (move last room p w) refl (move-goes room d h f k) (move-less last room p w)
     where
       by : (m : Move) → move last room p w ≡ m → Goes m → Less room w m → 1 ≤ advance last room p w .taken + length (advance last room p w .text)

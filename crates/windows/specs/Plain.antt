@@ -2,22 +2,21 @@
 -- thread once the moment is closed. They can be read one after the other without looking at the rest of the state.
 use mathlib.Core.Path.{_≡_, refl, sym, ap, _∙_, subst}
 use mathlib.Core.Bool.{Bool, true, false, cond, _&&_}
-use mathlib.Core.List.{List, []}
-use Prim.Native.Nat.{ℕ, zero, suc, _+_, _-_, _≤_, _<_}
+use Prim.Native.Nat.{ℕ, _+_, _-_, _≤_, _<_}
 use native.Mathlib.Decide.{decLt}
 use native.Mathlib.Omega.{arith}
-use borrow.Author.Tests.{eq-eqb, ne-eqb, lt-ltb, le-ltb, eqb-true, ltb-true}
+use borrow.Author.Tests.{ne-eqb, lt-ltb, le-ltb, eqb-true, ltb-true}
 use lib.Dec.{eqb, ltb}
 use lib.ListN.{set}
 use Rattle.rules.specs.Limits.{nobody, maxJobs, clockEnd}
 use Rattle.rules.specs.Threads.{Thread, State, Phase, Inactive, Contending, NonContending, at, isContending, contends, withJobs, withRows}
-use Rattle.rules.specs.Table.{Answer, Done, Refused, first, done, noSchedule}
+use Rattle.rules.specs.Table.{Done, first, done, noSchedule}
 use Rattle.rules.specs.Leaving.{gone}
 use Rattle.rules.specs.Arrival.{arrive, arrival}
 use Rattle.rules.specs.Drop.{headOnly, dropped}
 use Rattle.rules.specs.Run.{stateAfter}
 use Rattle.rules.specs.Records.{Moment, Record, Head, Row, Arrival, Completion, RunTo, Drop}
-use Rattle.rules.specs.Reading.{Reading, Read, atEvents, momentAnswer, threadAnswer, beforeTicks, ticksTo, ticksDue, eventRead, readAs, withState, recordRead}
+use Rattle.rules.specs.Reading.{Reading, atEvents, momentAnswer, threadAnswer, beforeTicks, ticksTo, ticksDue, eventRead, readAs, withState, recordRead}
 use Rattle.promises.specs.Cases.{true-false}
 use Rattle.promises.specs.Sound.{given-sound}
 use Rattle.windows.specs.Readings.{GoodReading}
@@ -34,8 +33,8 @@ touched (Completion m i) t n = nobody
 touched (RunTo m) t n = nobody
 touched (Drop m i) t n = atOnce m i t n
 
--- how many jobs it then has, or more than it may have where the record would change more
-abbrev pub tooMany : ℕ
+-- more jobs than a thread may have
+abbrev tooMany : ℕ
 tooMany = 65536
 
 abbrev pub oneMore : Thread → Bool → ℕ
@@ -50,6 +49,7 @@ more-open x closed e f = sym (ap (λ (b : Bool). cond (b && closed) (x .jobs + 1
 pub more-closed : (x : Thread) (closed : Bool) → contends x ≡ true → closed ≡ true → x .jobs + 1 ≡ oneMore x closed
 more-closed x closed e f = sym (ap (λ (b : Bool). cond (b && closed) (x .jobs + 1) tooMany) e ∙ ap (λ (b : Bool). cond b (x .jobs + 1) tooMany) f)
 
+-- how many jobs the thread x then has, or too many where the record would change more
 abbrev pub jobsAfter : Thread → Record → Bool → ℕ
 jobsAfter x (Head q k) closed = tooMany
 jobsAfter x (Row y) closed = tooMany
@@ -86,7 +86,8 @@ arrive-plain : (t : ℕ) (x : Thread) → x .phase ≡ Contending → arrive t x
 unfolding arrive
 arrive-plain t x e = rw e
 
-arrival-plain : (s : State) (i : ℕ) → s .closed ≡ true → i < s .count → contends (at (s .threads) i) ≡ true → at (s .threads) i .jobs < maxJobs → arrival s i ≡ done (recounted s i (at (s .threads) i .jobs + 1))
+arrival-plain : (s : State) (i : ℕ) → s .closed ≡ true → i < s .count → contends (at (s .threads) i) ≡ true → at (s .threads) i .jobs < maxJobs
+    → arrival s i ≡ done (recounted s i (at (s .threads) i .jobs + 1))
 unfolding arrival gone
 arrival-plain s i c h p j =
     rw (lt-ltb _ _ h, lt-ltb _ _ j, c)
@@ -118,21 +119,25 @@ module _ (r : Reading) (g : GoodReading r) where
   abbrev Reads : Record → ℕ → ℕ → Type 0
   Reads e k j = (ticksDue r e ≡ 0) × (recordRead r e ≡ readAs Done (withState r (recounted (r .state) k j)) r)
 
-  arrival-reads : (m : Moment) (i : ℕ) → m .0 ≡ r .state .clock .0 → i < r .state .count → r .state .closed ≡ true → contends (at (r .state .threads) i) ≡ true → at (r .state .threads) i .jobs < maxJobs → Reads (Arrival m i) i (at (r .state .threads) i .jobs + 1)
+  arrival-reads : (m : Moment) (i : ℕ) → m .0 ≡ r .state .clock .0 → i < r .state .count → r .state .closed ≡ true
+      → contends (at (r .state .threads) i) ≡ true → at (r .state .threads) i .jobs < maxJobs
+      → Reads (Arrival m i) i (at (r .state .threads) i .jobs + 1)
   unfolding ticksDue beforeTicks recordRead eventRead stateAfter
   arrival-reads m i now h c p j = (
     rw (begun-events i h, before-plain m i now h) (at-once m i now h),
     rw (begun-events i h, before-plain m i now h, at-once m i now h, arrival-plain (r .state) i c h p j),
   )
 
-  drop-reads : (m : Moment) (i : ℕ) → m .0 ≡ r .state .clock .0 → i < r .state .count → Reads (Drop m i) i (cond (ltb 1 (at (r .state .threads) i .jobs)) 1 (at (r .state .threads) i .jobs))
+  drop-reads : (m : Moment) (i : ℕ) → m .0 ≡ r .state .clock .0 → i < r .state .count
+      → Reads (Drop m i) i (cond (ltb 1 (at (r .state .threads) i .jobs)) 1 (at (r .state .threads) i .jobs))
   unfolding ticksDue beforeTicks recordRead eventRead stateAfter
   drop-reads m i now h = (
     rw (begun-events i h, before-plain m i now h) (at-once m i now h),
     rw (begun-events i h, before-plain m i now h, at-once m i now h, drop-plain (r .state) i h),
   )
 
-  pub plain-reads : (e : Record) (k j : ℕ) → touched e (r .state .clock .0) (r .state .count) ≡ k → (k ≡ nobody → ⊥) → jobsAfter (at (r .state .threads) k) e (r .state .closed) ≡ j → j ≤ maxJobs → (ticksDue r e ≡ 0) × (recordRead r e ≡ readAs Done (withState r (recounted (r .state) k j)) r)
+  pub plain-reads : (e : Record) (k j : ℕ) → touched e (r .state .clock .0) (r .state .count) ≡ k → (k ≡ nobody → ⊥)
+      → jobsAfter (at (r .state .threads) k) e (r .state .closed) ≡ j → j ≤ maxJobs → Reads e k j
   plain-reads (Head q n) k j t some js few = absurd (some (sym t))
   plain-reads (Row x) k j t some js few = absurd (some (sym t))
   plain-reads (Arrival m i) k j t some js few =

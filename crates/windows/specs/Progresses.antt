@@ -1,6 +1,6 @@
 -- What holds of every progress that calls gave: its reading is a given one.
 use mathlib.Core.Path.{_≡_, refl, sym, ap, _∙_, subst}
-use mathlib.Core.Bool.{Bool, true, false, cond, _||_}
+use mathlib.Core.Bool.{Bool, _||_}
 use mathlib.Core.List.{List, [], _∷_, _++_}
 use Prim.Native.Nat.{ℕ, zero, suc, _+_, _-_}
 use native.Mathlib.Omega.{arith}
@@ -15,7 +15,7 @@ use Rattle.rules.specs.Reading.{Reading, ticksDue, recordRead}
 use Rattle.rules.specs.Input.{GivenReading}
 use Rattle.promises.specs.Cases.{by-test}
 use Rattle.windows.specs.Ticks.{before-end, due-events}
-use Rattle.windows.specs.Advance.{Progress, longest, widest, farthest, begun, ticked, Move, stays, moves, stops, readMove, recordMove, decodedMove, frameMove, move, moved, advanced, advance, Call, advances, GivenProgress}
+use Rattle.windows.specs.Advance.{Progress, longest, widest, farthest, begun, ticked, Move, stays, moves, readMove, recordMove, decodedMove, frameMove, move, moved, advanced, advance, Call, advances, GivenProgress}
 use Rattle.windows.specs.Readings.{given-fresh, reading-by, reading-ticks}
 
 -- the reading after a move is a given one
@@ -24,7 +24,7 @@ Brings stays = Unit
 Brings (moves n t q) = GivenReading (q .reading)
 
 -- a tick that is due leaves a given reading
-pub ticked-given : (p : Progress) → GivenReading (p .reading) → (e : Record) (d : ℕ) → ticksDue (p .reading) e ≡ suc d → GivenReading (ticked p .reading)
+ticked-given : (p : Progress) → GivenReading (p .reading) → (e : Record) (d : ℕ) → ticksDue (p .reading) e ≡ suc d → GivenReading (ticked p .reading)
 unfolding stateAfter
 ticked-given p g e d due = reading-ticks g 1 (due-events (p .reading) e d due) (omega (arith, before-end (p .reading) e d due))
 
@@ -62,7 +62,9 @@ unfolding advanced
 advanced-given zero last room p w g = g
 advanced-given (suc k) last room p w g = by (move last room p w) (move-brings p g last room w) (λ r q v h. advanced-given k last r q v h)
   where
-    by : (m : Move) → Brings m → ((r : ℕ) (q : Progress) (v : List ℕ) → GivenReading (q .reading) → GivenReading (advanced k last r q v .progress .reading)) → GivenReading (moved (λ r q v. advanced k last r q v) room p w m .progress .reading)
+    by : (m : Move) → Brings m
+        → ((r : ℕ) (q : Progress) (v : List ℕ) → GivenReading (q .reading) → GivenReading (advanced k last r q v .progress .reading))
+        → GivenReading (moved (λ r q v. advanced k last r q v) room p w m .progress .reading)
     by stays h on = g
     by (moves n t q) h on = on (room - length t) q (drop n w) h
 

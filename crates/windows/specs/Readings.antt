@@ -1,14 +1,14 @@
 -- What holds of every reading that records gave.
 use mathlib.Core.Path.{_≡_, refl, sym, ap, _∙_, subst}
-use mathlib.Core.Bool.{Bool, true, false, not, cond, _&&_}
+use mathlib.Core.Bool.{Bool, true, false, not, cond}
 use mathlib.Core.List.{List, [], _∷_, _++_}
 use Prim.Native.Nat.{ℕ, zero, suc, _+_, _-_, _≤_, _<_}
 use native.Mathlib.Omega.{arith}
 use borrow.Author.Tests.{eqb-false, eqb-true, ltb-true, ltb-false, ne-eqb, lt-ltb, le-ltb, not-true}
-use lib.Dec.{eqb, ltb}
+use lib.Dec.{eqb}
 use lib.ListN.{length, set, length-set, length-replicate}
 use lib.Seq.{getD-set-same, getD-set-other}
-use Rattle.rules.specs.Limits.{maxQ, maxThreads, clockEnd, usualPeriod}
+use Rattle.rules.specs.Limits.{maxThreads, clockEnd, usualPeriod}
 use Rattle.rules.specs.Threads.{State}
 use Rattle.rules.specs.Table.{Table, Answer, Done, Refused, first, headAnswer, rowAnswer, rowAt, sharesTo, rowsAnswer, tableAnswer, noRow, start, noSchedule, opening}
 use Rattle.rules.specs.Table as table
@@ -19,7 +19,7 @@ use Rattle.rules.specs.Records as records
 use Rattle.rules.specs.Records.{Record, Head, Row, Arrival, Completion, RunTo, Drop, Decoded, Known, moment, decoded}
 use Rattle.rules.specs.Reading.{Reading, Read, fresh, atHead, atRows, atEvents, inPlace, readAs, headed, rowed, withRow, withState, beforeTicks, ticksBefore, atItsMoment, eventOf, eventRead, placedRead, recordRead, decodedRead, read}
 use Rattle.rules.specs.Input.{readings, GivenReading}
-use Rattle.promises.specs.Cases.{by-test, true-false}
+use Rattle.promises.specs.Cases.{by-test, both-true, and-false}
 use Rattle.promises.specs.Admission.{rows-more}
 use Rattle.promises.specs.Begin.{head-admitted}
 use Rattle.promises.specs.Always.{given-opening, given-by, given-steps}
@@ -42,7 +42,8 @@ reading-by g e = record {
 }
 
 -- a run to the moment n ticks ahead
-ticks-read : (r : Reading) (n : ℕ) → atEvents r ≡ true → r .state .clock .0 + n ≤ clockEnd → recordRead r (RunTo (moment (r .state .clock .0 + n))) .reading ≡ withState r (stateAfter n (r .state))
+ticks-read : (r : Reading) (n : ℕ) → atEvents r ≡ true → r .state .clock .0 + n ≤ clockEnd
+    → recordRead r (RunTo (moment (r .state .clock .0 + n))) .reading ≡ withState r (stateAfter n (r .state))
 unfolding recordRead eventRead beforeTicks
 ticks-read r n e h =
     let d : (r .state .clock .0 + n) - r .state .clock .0 ≡ n = omega arith in
@@ -53,15 +54,7 @@ pub reading-ticks : {r : Reading} → GivenReading r → (n : ℕ) → atEvents 
 reading-ticks {r} g n e h = subst GivenReading (ticks-read r n e h) (reading-by g (RunTo (moment (r .state .clock .0 + n))))
 
 -- ---- the places of a reading
-both-true : (a b : Bool) → (a && b) ≡ true → (a ≡ true) × (b ≡ true)
-both-true true b e = (refl, e)
-both-true false b e = absurd (true-false (sym e))
-
-never : (a : Bool) → (a && false) ≡ false
-never true = refl
-never false = refl
-
-pub rows-open : (r : Reading) → atRows r ≡ true → (r .table .threads ≡ 0 → ⊥) × (r .rows < r .table .threads)
+rows-open : (r : Reading) → atRows r ≡ true → (r .table .threads ≡ 0 → ⊥) × (r .rows < r .table .threads)
 rows-open r e = let p = both-true (not (atHead r)) _ e in (eqb-false _ _ (not-true _ (p .0)), ltb-true _ _ (p .1))
 
 -- a row is to come exactly while fewer have come than the head says
@@ -69,9 +62,9 @@ pub rows-come : (r : Reading) → r .rows < r .table .threads → atRows r ≡ t
 rows-come r h = rw (ne-eqb (r .table .threads) 0 (λ e. omega (arith, e, h)), lt-ltb (r .rows) (r .table .threads) h)
 
 pub rows-shut : (r : Reading) → r .table .threads ≤ r .rows → atRows r ≡ false
-rows-shut r h = rw (le-ltb (r .rows) (r .table .threads) h) (never (not (atHead r)))
+rows-shut r h = rw (le-ltb (r .rows) (r .table .threads) h) (and-false (not (atHead r)))
 
-pub events-open : (r : Reading) → atEvents r ≡ true → (r .table .threads ≡ 0 → ⊥) × (r .table .threads ≤ r .rows)
+events-open : (r : Reading) → atEvents r ≡ true → (r .table .threads ≡ 0 → ⊥) × (r .table .threads ≤ r .rows)
 events-open r e = let p = both-true (not (atHead r)) _ e in (eqb-false _ _ (not-true _ (p .0)), ltb-false _ _ (not-true _ (p .1)))
 
 -- ---- what holds of a given reading
@@ -96,49 +89,36 @@ given-none : Given noSchedule
 unfolding opening tableAnswer headAnswer
 given-none = given-opening usualPeriod (fresh .table)
 
-peel : (b : Bool) (k : ℕ) (a : Answer) → cond b (Refused k) a ≡ Done → (b ≡ false) × (a ≡ Done)
-peel true k a e = let z : _≡_ {A = ℕ} 0 1 = cc in absurd (omega arith)
-peel false k a e = (refl, e)
-
--- a head that is not refused has a thread
-head-some : (q n : ℕ) → headAnswer q n ≡ Done → n ≡ 0 → ⊥
-unfolding headAnswer
-head-some q n e =
-    let p1 = peel (eqb q 0) 1 _ e in
-    let p2 = peel (ltb maxQ q) 1 _ (p1 .1) in
-    let p3 = peel (eqb n 0) 2 _ (p2 .1) in
-    eqb-false n 0 (p3 .0)
-
-head-good : (r : Reading) (q n : ℕ) → headAnswer q n ≡ Done → GoodReading (headed q n r)
+head-good : (q n : ℕ) → headAnswer q n ≡ Done → GoodReading (headed q n)
 unfolding rowsAnswer
-head-good r q n e = record {
+head-good q n e = record {
   few = omega arith;
   long = length-replicate maxThreads noRow;
   head = λ _. e;
   rows = refl;
   given = given-none;
-  bare = λ z. absurd (head-some q n e z);
+  bare = λ z. absurd (head-admitted q n e .some z);
   unbegun = λ _. refl;
 }
 
 -- ---- a row
 -- a row at k leaves the sum of the shares before it, and what the rows before it answer
 module _ (rows : List table.Row) (k : ℕ) (x : table.Row) where
-  pub row-other : (i : ℕ) → (i ≡ k → ⊥) → rowAt (set rows k x) i ≡ rowAt rows i
+  row-other : (i : ℕ) → (i ≡ k → ⊥) → rowAt (set rows k x) i ≡ rowAt rows i
   row-other i f = getD-set-other rows k i x noRow f
 
-  pub shares-kept : (i : ℕ) → i ≤ k → sharesTo (set rows k x) i ≡ sharesTo rows i
+  shares-kept : (i : ℕ) → i ≤ k → sharesTo (set rows k x) i ≡ sharesTo rows i
   unfolding sharesTo
   shares-kept zero h = refl
   shares-kept (suc i) h = rw (shares-kept i (omega arith), row-other i (λ e. omega arith))
 
-  pub answers-kept : (usual q i : ℕ) → i ≤ k → rowsAnswer usual q (set rows k x) i ≡ rowsAnswer usual q rows i
+  answers-kept : (usual q i : ℕ) → i ≤ k → rowsAnswer usual q (set rows k x) i ≡ rowsAnswer usual q rows i
   unfolding rowsAnswer
   answers-kept usual q zero h = refl
   answers-kept usual q (suc i) h = rw (answers-kept usual q i (omega arith), shares-kept i (omega arith), row-other i (λ e. omega arith))
 
   -- a row that is not refused after those before it
-  pub row-joins : (usual q : ℕ) → k < length rows → rowsAnswer usual q rows k ≡ Done → rowAnswer usual q (sharesTo rows k) x ≡ Done → rowsAnswer usual q (set rows k x) (k + 1) ≡ Done
+  row-joins : (usual q : ℕ) → k < length rows → rowsAnswer usual q rows k ≡ Done → rowAnswer usual q (sharesTo rows k) x ≡ Done → rowsAnswer usual q (set rows k x) (k + 1) ≡ Done
   row-joins usual q h e d =
       rows-more usual q (set rows k x) k (answers-kept usual q k (omega arith) ∙ e)
       ∙ ap (λ (n : ℕ). rowAnswer usual q n (rowAt (set rows k x) k)) (shares-kept k (omega arith))
@@ -146,7 +126,7 @@ module _ (rows : List table.Row) (k : ℕ) (x : table.Row) where
       ∙ d
 
 -- the table with its last row begins a schedule
-pub table-whole : (t : Table) → headAnswer (t .q) (t .threads) ≡ Done → rowsAnswer usualPeriod (t .q) (t .rows) (t .threads) ≡ Done → tableAnswer usualPeriod t ≡ Done
+table-whole : (t : Table) → headAnswer (t .q) (t .threads) ≡ Done → rowsAnswer usualPeriod (t .q) (t .rows) (t .threads) ≡ Done → tableAnswer usualPeriod t ≡ Done
 unfolding tableAnswer
 table-whole t h e = rw (h, e)
 
@@ -160,7 +140,7 @@ module _ {r : Reading} (g : GoodReading r) where
 
   module _ (place : atRows r ≡ true) (x : table.Row) (d : rowAnswer usualPeriod (r .table .q) (sharesTo (r .table .rows) (r .rows)) x ≡ Done) where
     -- the rows with this one are not refused
-    pub rows-with : rowsAnswer usualPeriod (r .table .q) (set (r .table .rows) (r .rows) x) (r .rows + 1) ≡ Done
+    rows-with : rowsAnswer usualPeriod (r .table .q) (set (r .table .rows) (r .rows) x) (r .rows + 1) ≡ Done
     rows-with =
         let o = rows-open r place in
         row-joins (r .table .rows) (r .rows) x usualPeriod (r .table .q) (omega (arith, g .long, few-threads (o .0), o .1)) (g .rows) d
@@ -189,7 +169,7 @@ module _ {r : Reading} (g : GoodReading r) where
 
   -- ---- an event
   module _ (place : atEvents r ≡ true) where
-    pub with-good : {s : State} → Given s → GoodReading (withState r s)
+    with-good : {s : State} → Given s → GoodReading (withState r s)
     with-good s =
         let o = events-open r place in
         record {
@@ -202,7 +182,7 @@ module _ {r : Reading} (g : GoodReading r) where
           unbegun = λ h. absurd (omega (arith, o .1, h));
         }
 
-pub given-moment : {s : State} → Given s → (e : Record) → Given (atItsMoment s e .state)
+given-moment : {s : State} → Given s → (e : Record) → Given (atItsMoment s e .state)
 given-moment g (Head q n) = g
 given-moment g (Row x) = g
 given-moment g (Arrival m i) = given-by g (calls.arrive i)
@@ -221,7 +201,7 @@ unfolding eventRead
 event-good {r} g place e = as-good (first (beforeTicks (r .state) e) (eventOf (r .state) e .answer)) _ r (λ _. with-good g place (given-moment (given-steps (ticksBefore (r .state) e) (g .given)) e)) g
 
 placed-good : {r : Reading} → GoodReading r → (e : Record) → inPlace r e ≡ true → GoodReading (placedRead r e .reading)
-placed-good {r} g (Head q n) p = as-good (headAnswer q n) _ r (λ d. head-good r q n d) g
+placed-good {r} g (Head q n) p = as-good (headAnswer q n) _ r (λ d. head-good q n d) g
 placed-good {r} g (Row x) p = as-good (rowAnswer usualPeriod (r .table .q) (sharesTo (r .table .rows) (r .rows)) x) _ r (λ d. row-good g p x d) g
 placed-good g (Arrival m i) p = event-good g p (Arrival m i)
 placed-good g (Completion m i) p = event-good g p (Completion m i)

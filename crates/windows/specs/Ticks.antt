@@ -1,28 +1,26 @@
 -- The listing of an input goes on from any tick: the ticks before a record may be listed a part at a time.
-use mathlib.Core.Path.{_≡_, refl, sym, ap, _∙_, subst}
+use mathlib.Core.Path.{_≡_, refl, sym, ap, _∙_}
 use mathlib.Core.Bool.{Bool, true, false, cond}
-use mathlib.Core.List.{List, [], _∷_, _++_, append-nil, append-assoc}
+use mathlib.Core.List.{List, _++_, append-nil, append-assoc}
 use Prim.Native.Nat.{ℕ, zero, suc, _+_, _-_, _≤_, _<_}
 use native.Mathlib.Nat.{suc-add, zero-add}
 use native.Mathlib.Omega.{arith}
-use borrow.Author.Tests.{lt-ltb, le-ltb, ltb-true, ltb-false}
+use borrow.Author.Tests.{le-ltb, ltb-false}
 use lib.Dec.{ltb}
-use lib.ListN.{length, drop, length-drop}
 use Rattle.rules.specs.Limits.{clockEnd}
 use Rattle.rules.specs.Threads.{State}
-use Rattle.rules.specs.Table.{Answer, Done, Refused, Answered, first}
-use Rattle.rules.specs.Table as table
+use Rattle.rules.specs.Table.{Answer, Done, Refused, first}
 use Rattle.rules.specs.Step.{stepped}
 use Rattle.rules.specs.Run.{stateAfter}
 use Rattle.rules.specs.Records.{Moment, Record, Head, Row, Arrival, Completion, RunTo, Drop}
 use Rattle.rules.specs.Reading.{Reading, Read, atHead, atRows, atEvents, inPlace, momentAnswer, threadAnswer, beforeTicks, ticksTo, ticksBefore, dueAs, ticksDue, atItsMoment, eventOf, eventRead, readAs, withState, placedRead, recordRead}
 use Rattle.rules.specs.Listing.{Rest, tickLine, tickLines, onward}
 use Rattle.promises.specs.Unchanged.{step-same}
-use Rattle.promises.specs.Begin.{both-done}
+use Rattle.promises.specs.Begin.{peel, both-done}
 use Rattle.promises.specs.Taken.{steps-clock}
 
 -- the first tick of a run is taken first
-pub steps-first : (k : ℕ) (s : State) → stateAfter (suc k) s ≡ stateAfter k (stepped s .state)
+steps-first : (k : ℕ) (s : State) → stateAfter (suc k) s ≡ stateAfter k (stepped s .state)
 unfolding stateAfter
 steps-first zero s = refl
 steps-first (suc k) s = ap (λ (z : State). stepped z .state) (steps-first k s)
@@ -37,19 +35,10 @@ lines-first (suc k) s =
 
 -- ---- a record with a moment
 moment-done : (s : State) (m : Moment) → momentAnswer s m ≡ Done → (m .0 ≤ clockEnd) × (s .clock .0 ≤ m .0)
-moment-done s m h = go (ltb clockEnd (m .0)) (ltb (m .0) (s .clock .0)) refl refl h
-  where
-    no : (n : ℕ) → Refused n ≡ Done → ⊥
-    no n e = subst (λ (a : Answer). refusal a) e tt
-      where
-        refusal : Answer → Type 0
-        refusal Done = ⊥
-        refusal (Refused n) = Unit
-
-    go : (a b : Bool) → ltb clockEnd (m .0) ≡ a → ltb (m .0) (s .clock .0) ≡ b → cond a (Refused 13) (cond b (Refused 12) Done) ≡ Done → (m .0 ≤ clockEnd) × (s .clock .0 ≤ m .0)
-    go true b p q h = absurd (no 13 h)
-    go false true p q h = absurd (no 12 h)
-    go false false p q h = (ltb-false _ _ p, ltb-false _ _ q)
+moment-done s m h =
+    let p = peel (ltb clockEnd (m .0)) 13 _ h in
+    let q = peel (ltb (m .0) (s .clock .0)) 12 Done (p .1) in
+    (ltb-false _ _ (p .0), ltb-false _ _ (q .0))
 
 moment-is : (s : State) (m : Moment) → m .0 ≤ clockEnd → s .clock .0 ≤ m .0 → momentAnswer s m ≡ Done
 moment-is s m h k = rw (le-ltb _ _ h, le-ltb _ _ k)
@@ -63,7 +52,8 @@ record Timed (e : Record) (m : Moment) : Type 0 where
   reads : (r : Reading) → placedRead r e ≡ eventRead r e
 
 -- .. of a thread
-thread-again : (s z : State) (m : Moment) (i : ℕ) → z .count ≡ s .count → momentAnswer z m ≡ Done → first (momentAnswer s m) (threadAnswer s i) ≡ Done → first (momentAnswer z m) (threadAnswer z i) ≡ Done
+thread-again : (s z : State) (m : Moment) (i : ℕ) → z .count ≡ s .count → momentAnswer z m ≡ Done → first (momentAnswer s m) (threadAnswer s i) ≡ Done
+    → first (momentAnswer z m) (threadAnswer z i) ≡ Done
 thread-again s z m i c h k = ap (λ a. first a (threadAnswer z i)) h ∙ ap (λ (n : ℕ). cond (ltb i n) Done (Refused 8)) c ∙ both-done (momentAnswer s m) (threadAnswer s i) k .1
 
 arrival-timed : (m : Moment) (i : ℕ) → Timed (Arrival m i) m
@@ -101,7 +91,7 @@ timed (Drop m i) r d h = (m, drop-timed m i)
 -- ---- one tick of those that are due
 module _ (r : Reading) (e : Record) (d : ℕ) (due : ticksDue r e ≡ suc d) where
   -- the reading after the tick
-  abbrev pub after-tick : Reading
+  abbrev after-tick : Reading
   after-tick = withState r (stepped (r .state) .state)
 
   t : Timed e (timed e r d due .0)
@@ -157,19 +147,27 @@ module _ (r : Reading) (e : Record) (d : ℕ) (due : ticksDue r e ≡ suc d) whe
       ∙ ap (λ (x : State). atItsMoment x e) (sym (steps-first d (r .state)))
       ∙ ap (λ (n : ℕ). atItsMoment (stateAfter n (r .state)) e) (sym (facts .2))
 
-  read-before : recordRead r e ≡ readAs (eventOf (r .state) e .answer) (withState r (eventOf (r .state) e .state)) r
+  -- the reading once it is applied
+  abbrev applied : Reading
+  applied = withState r (eventOf (r .state) e .state)
+
+  read-before : recordRead r e ≡ readAs (eventOf (r .state) e .answer) applied r
   unfolding recordRead eventRead
   read-before = rw (facts .0, t .reads r, facts .1)
 
-  read-after : recordRead after-tick e ≡ readAs (eventOf (r .state) e .answer) (withState r (eventOf (r .state) e .state)) after-tick
+  read-after : recordRead after-tick e ≡ readAs (eventOf (r .state) e .answer) applied after-tick
   unfolding recordRead eventRead
   read-after = rw (z-place, t .reads after-tick, z-before, same-event)
 
   -- the listing goes on alike
-  pub onward-after : (rest : Rest) (b n : ℕ) (s : List ℕ) → onward (recordRead after-tick e .answer) rest (recordRead after-tick e .reading) b n s ≡ onward (recordRead r e .answer) rest (recordRead r e .reading) b n s
+  pub onward-after : (rest : Rest) (b n : ℕ) (s : List ℕ)
+      → onward (recordRead after-tick e .answer) rest (recordRead after-tick e .reading) b n s ≡ onward (recordRead r e .answer) rest (recordRead r e .reading) b n s
   onward-after rest b n s = rw (read-before, read-after) (go (eventOf (r .state) e .answer))
     where
-      go : (a : Answer) → onward (readAs a (withState r (eventOf (r .state) e .state)) after-tick .answer) rest (readAs a (withState r (eventOf (r .state) e .state)) after-tick .reading) b n s ≡ onward (readAs a (withState r (eventOf (r .state) e .state)) r .answer) rest (readAs a (withState r (eventOf (r .state) e .state)) r .reading) b n s
+      on : Read → List ℕ
+      on x = onward (x .answer) rest (x .reading) b n s
+
+      go : (a : Answer) → on (readAs a applied after-tick) ≡ on (readAs a applied r)
       go Done = refl
       go (Refused k) = refl
 
