@@ -1,6 +1,6 @@
 // The listing of a trace: from windows of the input into a lent output.
 ghost use mathlib.Core.Path.{_≡_};
-ghost use mathlib.Core.Bool.{Bool, true, false};
+ghost use mathlib.Core.Bool.{true, false};
 ghost use Prim.Native.Nat.{_+_, _≤_};
 ghost use lib.ListN.{length};
 ghost use lib.Seq.{sets};
@@ -14,7 +14,7 @@ ghost use Rattle.windows.specs.Advance as window;
 ghost use Rattle.windows.specs.Advance.{GivenProgress, longest, widest, finished, begun};
 ghost use Rattle.windows.specs.Plain as plain;
 ghost use Rattle.windows.specs.Plain.{atOnce, oneMore, jobsAfter};
-ghost use Rattle.listing.specs.Way.{nothingSeen, seenAt, turnOf, SweptTo, Stands, Framed, ListedTo, Open, allRows, actedAs, reachedAt, ActedTo, ActedAny};
+ghost use Rattle.listing.specs.Way.{nothingSeen, seenAt, turnOf, SweptTo, Stands, Framed, ListedTo, Open, actedAs, reachedAt, ActedTo, ActedAny};
 use quantities::Answer;
 use quantities::Decoded;
 use quantities::Frame;
@@ -273,27 +273,16 @@ fn stop(out: &mut [u8], at: usize, used: usize, p: Progress, n: u8) -> Acted
     }
 }
 
-// All rows of the head have come.
-fn at_events(threads: u16, rows: usize) -> bool
-    ensures { λ r. ⌜ r ≡ allRows threads rows ⌝ }
-{
-    if threads == 0 {
-        return false;
-    }
-    if rows < threads as usize {
-        return false;
-    }
-    true
-}
-
 // The input ends between records.
 fn finish(out: &mut [u8], at: usize, used: usize, p: Progress) -> Acted
     requires { ⌜ used + longest ≤ length (now out) ⌝ }
     ensures { λ r. ⌜ r ≡ actedAs true at (used + length (ending (p .reading) (p .place))) (finished p) ⌝ }
     ensures { λ _. ⌜ now (out .exit) ≡ sets (now (out .entry)) used (ending (p .reading) (p .place)) ⌝ }
 {
-    if !at_events(p.reading.table.threads, p.reading.rows) {
-        return stop(out, at, used, p, 14);
+    let x = reader::ended(p.reading, p.place as usize);
+    let a = x.answer;
+    if let Answer::Refused(n) = a {
+        return stop(out, at, used, p, n);
     }
     let to = text::end(out, used, p.reading.state.clock.0);
     Acted {

@@ -308,8 +308,8 @@ fn stopped(a: Answer, at: usize, r: Reading) -> InputRead
     }
 }
 
-// The input ends between records; 14.
-fn ended(r: Reading, at: usize) -> InputRead
+// The input ends at the byte `at`, between records; 14 before the last row.
+pub fn ended(r: Reading, at: usize) -> InputRead
     ensures { λ x. ⌜ x ≡ endRead r at ⌝ }
 {
     if all_rows(r.table.threads, r.rows) {

@@ -1,32 +1,17 @@
 use borrow.Author.Needs.{needs}
 use mathlib.Core.Path.{_≡_, sym, ap, _∙_, subst}
-use mathlib.Core.Bool.{Bool, true, false}
-use mathlib.Core.List.{List}
-use Prim.Native.Nat.{ℕ, _+_, _-_, _≤_, _<_}
+use Prim.Native.Nat.{_+_, _-_, _≤_, _<_}
 use native.Mathlib.Omega.{arith}
 use lib.ListN.{length, drop}
 use Rattle.rules.specs.Threads.{at}
-use Rattle.promises.specs.Cases.{true-false}
 use Rattle.promises.specs.Sound.{RowOk, given-sound}
 use Rattle.windows.specs.Inputs.{rest-part}
 use Rattle.windows.specs.Readings.{given-reading}
+use Rattle.listing.specs.Turns.{turns, fewer, last-turn}
 use Rattle.listing.specs.Way.{seenAt, SweptTo}
 use Rattle.listing.specs.Swept.{touched-in, Sweeping, sweep-none, steps-on, sweep-more, swept-to}
 use Rattle.listing.proofs.sweep.Statement.{statement}
 use Rattle.listing.proofs.sweep.Tie as tie
-
--- the turns that are left
-abbrev turns : Bool → ℕ → ℕ
-turns true n = n + 1
-turns false n = 0
-
-some-left : (b : Bool) (n : ℕ) → b ≡ true → 0 < turns b n
-some-left true n e = omega arith
-some-left false n e = absurd (true-false (sym e))
-
-one-less : (b : Bool) (m n : ℕ) → b ≡ true → m < n → turns b m < turns b n
-one-less true m n e h = omega arith
-one-less false m n e h = absurd (true-false (sym e))
 
 abbrev Inv-loop : tie.InvT-loop
 Inv-loop w from r s₀ place₀ at₀ going₀ s place at going = Sweeping w from r place₀ s place at
@@ -53,13 +38,13 @@ touched-requires : tie.Need-touched-requires Inv-loop μ-loop
 touched-requires c κs = search needs
 
 loop-less : tie.Need-loop-less Inv-loop μ-loop
-loop-less c = some-left _ _ (c .before .before .before .before .before .loop-test .taken)
+loop-less c = last-turn _ _ (c .before .before .before .before .before .loop-test .taken)
 
 loop-again : tie.Need-loop-again Inv-loop μ-loop
 loop-again c = c .before .before .before .before .before .before .loop .inv
 
 loop-less-2 : tie.Need-loop-less-2 Inv-loop μ-loop
-loop-less-2 c = some-left _ _ (c .before .before .before .before .before .before .loop-test .taken)
+loop-less-2 c = last-turn _ _ (c .before .before .before .before .before .before .loop-test .taken)
 
 loop-again-2 : tie.Need-loop-again-2 Inv-loop μ-loop
 loop-again-2 c = c .before .before .before .before .before .before .before .loop .inv
@@ -89,7 +74,7 @@ jobs-after-requires : tie.Need-jobs-after-requires Inv-loop μ-loop
 jobs-after-requires c κs = okay (c .before) .1 .jobs-max
 
 loop-less-3 : tie.Need-loop-less-3 Inv-loop μ-loop
-loop-less-3 c = some-left _ _ (c .before .before .before .before .before .before .before .before .before .loop-test .taken)
+loop-less-3 c = last-turn _ _ (c .before .before .before .before .before .before .before .before .before .loop-test .taken)
 
 loop-again-3 : tie.Need-loop-again-3 Inv-loop μ-loop
 loop-again-3 c = c .before .before .before .before .before .before .before .before .before .before .loop .inv
@@ -111,7 +96,7 @@ loop-less-4 c =
     let h = on (c .before .before .before .before) in
     let l = c .before .before .before .before .before .before .before .before .before .before .before .loop in
     let n = length (c .before .before .before .before .before .before .before .before .before .before .before .before .before .before .before .args .w .now) in
-    one-less (l .going) (n - (l .at + c .before .before .before .before .before .before .before .before .look .result .length)) (n - l .at) (c .before .before .before .before .before .before .before .before .before .before .loop-test .taken) (omega (arith, h .0, h .1))
+    fewer (l .going) (l .going) (n - (l .at + c .before .before .before .before .before .before .before .before .look .result .length)) (n - l .at) (c .before .before .before .before .before .before .before .before .before .before .loop-test .taken) (λ _. omega (arith, h .0, h .1))
 
 loop-again-4 : tie.Need-loop-again-4 Inv-loop μ-loop
 loop-again-4 c =
