@@ -17,7 +17,7 @@ use Rattle.rules.specs.Listing.{tickLine, ending}
 use Rattle.windows.specs.Advance.{Progress, longest, widest, farthest, finished, went, ticked, stays, moves, stops, readMove, recordMove, decodedMove, frameMove, move}
 use Rattle.windows.specs.Plain.{touched, jobsAfter, recounted, plain-reads}
 use Rattle.windows.specs.Readings.{given-reading}
-use Rattle.listing.specs.declared.Seen.{Seen}
+use Rattle.listing.specs.declared.sweep.Seen.{Seen}
 use Rattle.listing.specs.Way.{nothingSeen, seenDecoded, seenFrame, seenAt}
 
 module _ (last : Bool) (room : ℕ) (p : Progress) (w : List ℕ) where

@@ -19,7 +19,7 @@ use Rattle.windows.specs.Plain.{atOnce, touched, jobsAfter, recounted, plain-re
 use Rattle.windows.specs.Readings.{given-reading, reading-by}
 use Rattle.windows.specs.Inputs.{whole-within}
 use Rattle.windows.specs.Along.{Along, along-none, along-then, along-move}
-use Rattle.listing.specs.declared.Seen.{Seen}
+use Rattle.listing.specs.declared.sweep.Seen.{Seen}
 use Rattle.listing.specs.Way.{seenDecoded, seenFrame, seenAt, reachedAt, SweptTo}
 use Rattle.listing.specs.Moves.{moves-plain}
 

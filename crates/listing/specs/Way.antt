@@ -17,7 +17,7 @@ use Rattle.rules.specs.Listing.{tickLines, refusalLine, endLine, ending}
 use Rattle.windows.specs.Advance.{Progress, longest, widest, farthest, stays, move, Advanced}
 use Rattle.windows.specs.Along.{Along}
 use Rattle.quantities.specs.declared.Turn.{Turn}
-use Rattle.listing.specs.declared.Seen.{Seen}
+use Rattle.listing.specs.declared.sweep.Seen.{Seen}
 use Rattle.listing.specs.declared.Acted.{Acted}
 
 -- the answer of a call

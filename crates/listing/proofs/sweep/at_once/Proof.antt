@@ -1,6 +1,6 @@
 use borrow.Author.Tests.{lt-ltb, le-ltb, eq-eqb, ne-eqb}
-use Rattle.reader.proofs.all_rows.Statement.{statement}
-use Rattle.reader.proofs.all_rows.Tie as tie
+use Rattle.listing.proofs.sweep.at_once.Statement.{statement}
+use Rattle.listing.proofs.sweep.at_once.Tie as tie
 
 ruleset tests = (lt-ltb, le-ltb, eq-eqb, ne-eqb)
 
@@ -13,5 +13,5 @@ returns-2 c = search tests
 returns-3 : tie.Need-returns-3
 returns-3 c = search tests
 
-pub all-rows-spec : {M : Type 1} → statement M
-all-rows-spec = tie.close (tie.spec returns returns-2 returns-3)
+pub at-once-spec : {M : Type 1} → statement M
+at-once-spec = tie.close (tie.spec returns returns-2 returns-3)

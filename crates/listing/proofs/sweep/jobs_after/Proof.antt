@@ -1,7 +1,7 @@
 use borrow.Author.Tests.{lt-ltb, le-ltb}
 use borrow.Author.Needs.{needs}
-use Rattle.listing.proofs.jobs_after.Statement.{statement}
-use Rattle.listing.proofs.jobs_after.Tie as tie
+use Rattle.listing.proofs.sweep.jobs_after.Statement.{statement}
+use Rattle.listing.proofs.sweep.jobs_after.Tie as tie
 
 enum-known-e : tie.Need-enum-known-e
 enum-known-e c = search needs

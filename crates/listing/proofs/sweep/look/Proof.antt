@@ -12,11 +12,11 @@ use Rattle.rules.specs.Records.{Frame, Ended, Cut, Whole, frameOf}
 use Rattle.windows.specs.Advance.{widest}
 use Rattle.windows.specs.Frames.{at-most}
 use Rattle.windows.specs.Inputs.{whole-within}
-use Rattle.listing.specs.declared.Seen.{Seen}
+use Rattle.listing.specs.declared.sweep.Seen.{Seen}
 use Rattle.listing.specs.Way.{nothingSeen, seenAt, seen-known, seen-refused}
 use borrow.Author.Needs.{needs}
-use Rattle.listing.proofs.look.Statement.{statement}
-use Rattle.listing.proofs.look.Tie as tie
+use Rattle.listing.proofs.sweep.look.Statement.{statement}
+use Rattle.listing.proofs.sweep.look.Tie as tie
 
 -- what is no whole record is not seen
 not-whole : (s : List ℕ) (f : Frame) → f ≡ frameOf s → OneOf (0 ∷ (1 ∷ [])) (tagOf the-type f) → seenAt s ≡ nothingSeen

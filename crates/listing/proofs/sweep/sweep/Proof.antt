@@ -10,8 +10,8 @@ use Rattle.windows.specs.Readings.{given-reading}
 use Rattle.listing.specs.Turns.{turns, fewer, last-turn}
 use Rattle.listing.specs.Way.{seenAt, SweptTo}
 use Rattle.listing.specs.Swept.{touched-in, Sweeping, sweep-none, steps-on, sweep-more, swept-to}
-use Rattle.listing.proofs.sweep.Statement.{statement}
-use Rattle.listing.proofs.sweep.Tie as tie
+use Rattle.listing.proofs.sweep.sweep.Statement.{statement}
+use Rattle.listing.proofs.sweep.sweep.Tie as tie
 
 abbrev Inv-loop : tie.InvT-loop
 Inv-loop w from r s₀ place₀ at₀ going₀ s place at going = Sweeping w from r place₀ s place at

@@ -2,8 +2,8 @@ use mathlib.Core.Path.{sym, _∙_}
 use borrow.Author.Tests.{not-true, not-false}
 use borrow.Author.Needs.{needs}
 use Rattle.windows.specs.Plain.{more-none, more-open, more-closed}
-use Rattle.listing.proofs.one_more.Statement.{statement}
-use Rattle.listing.proofs.one_more.Tie as tie
+use Rattle.listing.proofs.sweep.one_more.Statement.{statement}
+use Rattle.listing.proofs.sweep.one_more.Tie as tie
 
 contends-requires : tie.Need-contends-requires
 contends-requires c κs = search needs

@@ -10,8 +10,8 @@ use Rattle.rules.specs.Calls.{Given}
 use Rattle.windows.specs.Advance.{longest}
 use Rattle.listing.specs.Way.{Listed}
 use Rattle.listing.specs.Listed.{early-at, given-at, clock-next, had-below, line-idle, line-grant, listed-none, same-room, put-listed, listed-to}
-use Rattle.listing.proofs.ticks.Statement.{statement}
-use Rattle.listing.proofs.ticks.Tie as tie
+use Rattle.listing.proofs.ticks.ticks.Statement.{statement}
+use Rattle.listing.proofs.ticks.ticks.Tie as tie
 
 abbrev Inv-loop : tie.InvT-loop
 Inv-loop out₀ from n z₀ used₀ i₀ out z used i = Listed out₀ from z₀ n i out used z

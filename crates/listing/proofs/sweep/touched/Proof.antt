@@ -1,6 +1,6 @@
 use borrow.Author.Needs.{needs}
-use Rattle.listing.proofs.touched.Statement.{statement}
-use Rattle.listing.proofs.touched.Tie as tie
+use Rattle.listing.proofs.sweep.touched.Statement.{statement}
+use Rattle.listing.proofs.sweep.touched.Tie as tie
 
 enum-known-e : tie.Need-enum-known-e
 enum-known-e c = search needs
