@@ -5,7 +5,7 @@ use mathlib.Core.List.{List}
 use Prim.Native.Nat.{ℕ, _+_, _-_, _≤_}
 use native.Mathlib.Omega.{arith}
 use Rattle.quantities.specs.declared.Turn.{Turn}
-use Rattle.windows.specs.Advance.{Progress, GivenProgress, advance}
+use Rattle.windows.specs.Advance.{GivenProgress, advance}
 use Rattle.windows.specs.Progresses.{progress-by}
 use Rattle.listing.specs.Way.{turnOf}
 use Rattle.bollardine.specs.declared.Shell.{Shell}

@@ -1,9 +1,10 @@
 // The program: a trace from standard input, or from the file that is named, and its listing on
 // standard output. It only reads, calls and writes.
-ghost use Prim.Native.Nat.{_≤_};
+ghost use Prim.Native.Nat.{_-_, _≤_};
 ghost use lib.ListN.{length};
 ghost use mathlib.Core.Path.{_≡_};
 ghost use Rattle.bollardine.specs.Shell.{Good, stopped};
+ghost use Rattle.bollardine.specs.Shift.{Shifted};
 use quantities::Progress;
 
 // A listing while the program runs: its progress, the part of the buffer that holds what was read
@@ -21,6 +22,7 @@ pub struct Shell {
 // Moves the bytes of buf from `from` up to `to` to its start.
 fn shift(buf: &mut [u8], from: usize, to: usize)
     requires { ⌜ (from ≤ to) × (to ≤ length (now buf)) ⌝ }
+    ensures { λ _. ⌜ Shifted (now (buf .entry)) from (to - from) (now (buf .exit)) ⌝ }
 {
     let mut i = from;
     let mut o: usize = 0;

@@ -172,7 +172,7 @@ fn heads() {
     );
 }
 
-// 3 to 7, of Q 10.
+// 3 to 6, of Q 10.
 fn rows() {
     after_head(
         b"row record, application 15",
@@ -210,6 +210,10 @@ fn rows() {
         b"row record, share 3 and period 3",
         b"\x0a\x00\x02\x00\x00\x00\x03\x00\x03\x00\x00\x00",
     );
+}
+
+// 7: the shares of all rows together.
+fn shares() {
     read(
         b"row records, shares 6 and 4",
         b"\x06\x00\x01\x00\x0a\x00\x02\x00\x0a\x00\x02\x00\x00\x00\x06\x00\x0a\x00\x00\x00\x0a\x00\x02\x00\x00\x00\x04\x00\x0a\x00\x00\x00",
@@ -220,7 +224,7 @@ fn rows() {
     );
 }
 
-// 13, 12 and 8, in this order.
+// 13 and 12, in this order; 8 comes after them.
 fn moments() {
     after_rows(b"run to 2147483648", b"\x06\x00\x05\x00\x00\x00\x00\x80");
     after_rows(
@@ -251,6 +255,10 @@ fn moments() {
         b"run to 5, arrival at 4 of thread 1 of 1",
         b"\x06\x00\x05\x00\x05\x00\x00\x00\x08\x00\x03\x00\x04\x00\x00\x00\x01\x00",
     );
+}
+
+// 8: the number after the last thread's.
+fn numbers() {
     after_rows(
         b"arrival of thread 1 of 1",
         b"\x08\x00\x03\x00\x00\x00\x00\x00\x01\x00",
@@ -299,6 +307,8 @@ pub fn run() {
     places();
     heads();
     rows();
+    shares();
     moments();
+    numbers();
     completions();
 }

@@ -11,61 +11,67 @@ use lib.Seq.{sets, length-sets}
 use Rattle.lists.specs.Sets.{sets-chain}
 use Rattle.rules.specs.Limits.{clockEnd}
 use Rattle.rules.specs.Threads.{State}
-use Rattle.rules.specs.Table.{Answer, Done, Refused}
-use Rattle.rules.specs.Step.{stepped}
+use Rattle.rules.specs.Table.{Done, Refused}
 use Rattle.rules.specs.Run.{stateAfter}
-use Rattle.rules.specs.Calls.{Given}
 use Rattle.rules.specs.Records.{Record}
-use Rattle.rules.specs.Reading.{Reading, Read, atEvents, withState, ticksDue, recordRead}
+use Rattle.rules.specs.Reading.{Reading, atEvents, withState, ticksDue, recordRead}
 use Rattle.rules.specs.Input.{GivenReading}
 use Rattle.rules.specs.Listing.{tickLine, tickLines, refusalLine, endLine, ending}
 use Rattle.promises.specs.Cases.{by-test, true-false}
 use Rattle.promises.specs.Always.{given-steps}
+use Rattle.promises.specs.Sound.{given-sound}
 use Rattle.promises.specs.Taken.{steps-early}
-use Rattle.windows.specs.Advance.{Progress, longest, widest, farthest, finished, went, ticked, stays, moves, stops, move}
+use Rattle.windows.specs.Advance.{Progress, longest, finished, went, stays, moves, stops, move}
 use Rattle.windows.specs.Along.{Along, along-none, along-then, along-move}
-use Rattle.windows.specs.Goes.{tick-some, refusal-some}
-use Rattle.windows.specs.Readings.{given-reading, reading-by, reading-ticks}
+use Rattle.windows.specs.Goes.{line-some, tick-some, refusal-some}
+use Rattle.windows.specs.Readings.{given-reading, reading-ticks}
 use Rattle.windows.specs.Ticks.{due-events, due-fits, due-steps}
-use Rattle.text.specs.Laws.{refusal-longest, end-longest, end-some}
+use Rattle.text.specs.Laws.{refusal-longest, end-longest}
 use Rattle.listing.specs.declared.Acted.{Acted}
 use Rattle.listing.specs.Listed.{tick-longest}
 use Rattle.listing.specs.Moves.{moves-read, moves-tick}
-use Rattle.listing.specs.Way.{seenAt, SweptTo, Stands, Listed, ListedTo, Open, reachedAt, actedAs, ActedTo}
+use Rattle.listing.specs.Way.{SweptTo, Stands, ListedTo, Open, reachedAt, actedAs, Stage, ActedTo}
 
 module _ (last : Bool) (w out : List ℕ) (from used : ℕ) (p : Progress) where
   -- ---- nothing
-  pub stay-acts : GivenReading (p .reading) → from ≤ length w → used ≤ length out → move last (length out - used) p (drop from w) ≡ stays → ActedTo last w out from used p out (actedAs false from used p)
-  stay-acts g h k e = record { given = g; along = along-none last w out from used p h k; ends = λ _. e; less = λ f. absurd (true-false (sym f)) }
+  pub stay-acts : {x : Acted} → x ≡ actedAs false from used p → GivenReading (p .reading) → from ≤ length w → used ≤ length out → move last (length out - used) p (drop from w) ≡ stays → ActedTo last w out from used p out x
+  stay-acts is g h k e = subst (ActedTo last w out from used p out) (sym is) (record {
+    stage = record { given = g; along = along-none last w out from used p h k; ends = λ _. e };
+    less = λ f. absurd (true-false (sym f));
+  })
 
-  -- ---- a text
-  pub text-acts : (t : List ℕ) (q : Progress) → move last (length out - used) p (drop from w) ≡ moves 0 t q → GivenReading (q .reading) → from ≤ length w → 1 ≤ length t → length t ≤ longest → used + longest ≤ length out → ActedTo last w out from used p (sets out used t) (actedAs true from (used + length t) q)
-  text-acts t q e g h some short room = record {
-    given = g;
-    along = subst (λ (k : ℕ). Along last w out from used p (sets out used t) k (used + length t) q) (add-zero from) (along-move last w out from used p h 0 t q e (omega arith));
-    ends = λ f. absurd (true-false f);
+  -- ---- a text, as the code has put it
+  pub text-acts : (t : List ℕ) (q : Progress) {out′ : List ℕ} {x : Acted} → x ≡ actedAs true from (used + length t) q → out′ ≡ sets out used t → move last (length out - used) p (drop from w) ≡ moves 0 t q → GivenReading (q .reading) → from ≤ length w → 1 ≤ length t → length t ≤ longest → used + longest ≤ length out → ActedTo last w out from used p out′ x
+  text-acts t q is stored e g h some short room = rw (is, stored) (record {
+    stage = record {
+      given = g;
+      along = subst (λ (k : ℕ). Along last w out from used p (sets out used t) k (used + length t) q) (add-zero from) (along-move last w out from used p h 0 t q e (omega arith));
+      ends = λ f. absurd (true-false f);
+    };
     less = λ _. omega arith;
-  }
+  })
 
 module _ (last : Bool) (w out : List ℕ) (from used : ℕ) (p : Progress) (o : Open w out from used p) where
   -- ---- the last line
-  pub stop-acts : (n : ℕ) → n < 2 ^ 8 → move last (length out - used) p (drop from w) ≡ stops p n → p .place < 2 ^ 64 → ActedTo last w out from used p (sets out used (refusalLine n (p .place))) (actedAs true from (used + length (refusalLine n (p .place))) (finished p))
-  stop-acts n small e place = text-acts last w out from used p (refusalLine n (p .place)) (finished p) e (o .given) (o .within) (refusal-some n (p .place)) (refusal-longest n (p .place) small place) (o .room)
+  pub stop-acts : (n : ℕ) {out′ : List ℕ} {x : Acted} → x ≡ actedAs true from (used + length (refusalLine n (p .place))) (finished p) → out′ ≡ sets out used (refusalLine n (p .place)) → n < 2 ^ 8 → move last (length out - used) p (drop from w) ≡ stops p n → ActedTo last w out from used p out′ x
+  stop-acts n is stored small e = text-acts last w out from used p (refusalLine n (p .place)) (finished p) is stored e (o .given) (o .within) (refusal-some n (p .place)) (refusal-longest n (p .place) small (omega (arith, o .near))) (o .room)
 
   module _ (n : ℕ) (e : Record) (z : Stands w from n e) where
     room-left : longest ≤ length out - used
     room-left = omega (arith, o .room)
 
     -- ---- a record that is refused
-    pub refused-acts : ticksDue (p .reading) e ≡ 0 → (m : ℕ) → m < 2 ^ 8 → (r : Reading) → recordRead (p .reading) e ≡ record { answer = Refused m; reading = r } → p .place < 2 ^ 64 → ActedTo last w out from used p (sets out used (refusalLine m (p .place))) (actedAs true from (used + length (refusalLine m (p .place))) (finished p))
-    refused-acts due m small r x place = stop-acts m small (moves-read last (length out - used) p (drop from w) (o .undone) room-left (o .near) n e (z .some) (z .is) due (Refused m) r x) place
+    pub refused-acts : (m : ℕ) {out′ : List ℕ} {x : Acted} → x ≡ actedAs true from (used + length (refusalLine m (p .place))) (finished p) → out′ ≡ sets out used (refusalLine m (p .place)) → ticksDue (p .reading) e ≡ 0 → m < 2 ^ 8 → (r : Reading) → recordRead (p .reading) e ≡ record { answer = Refused m; reading = r } → ActedTo last w out from used p out′ x
+    refused-acts m is stored due small r y = stop-acts m is stored small (moves-read last (length out - used) p (drop from w) (o .undone) room-left (o .near) n e (z .some) (z .is) due (Refused m) r y)
 
     -- ---- a record that is read, and those that are swept after it
     pub read-acts : ticksDue (p .reading) e ≡ 0 → (r : Reading) → recordRead (p .reading) e ≡ record { answer = Done; reading = r } → (at : ℕ) (q : Progress) → SweptTo w (from + n) (reachedAt r (p .place + n)) at q → ActedTo last w out from used p out (actedAs true at used q)
     read-acts due r x at q s = record {
-      given = s .given;
-      along = along-then last w first (s .along last out used (o .room));
-      ends = λ f. absurd (true-false f);
+      stage = record {
+        given = s .given;
+        along = along-then last w first (s .along last out used (o .room));
+        ends = λ f. absurd (true-false f);
+      };
       less = λ _. omega (arith, s .takes, s .within, z .some);
     }
       where
@@ -139,9 +145,11 @@ module _ (last : Bool) (w out : List ℕ) (from used : ℕ) (p : Progress) (o : 
 
       pub ticks-act : (out′ : List ℕ) (u : ℕ) (y : State) → ListedTo out used (p .reading .state) d out′ u y → ActedTo last w out from used p out′ (actedAs true from u (reachedAt (withState (p .reading) y) (p .place)))
       ticks-act out′ u y l = rw (l .listed .stored, l .listed .writes, l .listed .state) (record {
-        given = given-after (l .count) (l .listed .most);
-        along = along-ticks (l .count) (l .listed .most) (l .listed .roomy);
-        ends = λ f. absurd (true-false f);
+        stage = record {
+          given = given-after (l .count) (l .listed .most);
+          along = along-ticks (l .count) (l .listed .most) (l .listed .roomy);
+          ends = λ f. absurd (true-false f);
+        };
         less = λ _. omega (arith, lines-some (l .count) counted (l .listed .most), o .room);
       })
         where
@@ -153,25 +161,32 @@ module _ (last : Bool) (w out : List ℕ) (from used : ℕ) (p : Progress) (o : 
               by (no c) = omega (arith, c)
 
   -- ---- the end of the input
-  pub ending-acts : (p .reading .state .clock .0 < 2 ^ 32) → p .place < 2 ^ 64 → move last (length out - used) p (drop from w) ≡ moves 0 (ending (p .reading) (p .place)) (finished p) → ActedTo last w out from used p (sets out used (ending (p .reading) (p .place))) (actedAs true from (used + length (ending (p .reading) (p .place))) (finished p))
+  pub ending-acts : {out′ : List ℕ} {x : Acted} → x ≡ actedAs true from (used + length (ending (p .reading) (p .place))) (finished p) → out′ ≡ sets out used (ending (p .reading) (p .place)) → move last (length out - used) p (drop from w) ≡ moves 0 (ending (p .reading) (p .place)) (finished p) → ActedTo last w out from used p out′ x
   unfolding ending
-  ending-acts time place e =
-      by-test (λ (t : List ℕ). move last (length out - used) p (drop from w) ≡ moves 0 t (finished p) → ActedTo last w out from used p (sets out used t) (actedAs true from (used + length t) (finished p))) (atEvents (p .reading))
-      (λ _ i. text-acts last w out from used p (endLine (p .reading .state .clock .0)) (finished p) i (o .given) (o .within) (end-some (p .reading .state .clock .0)) (end-longest (p .reading .state .clock .0) time) (o .room))
-      (λ _ i. text-acts last w out from used p (refusalLine 14 (p .place)) (finished p) i (o .given) (o .within) (refusal-some 14 (p .place)) (refusal-longest 14 (p .place) (omega arith) place) (o .room))
-      e
+  ending-acts {out′} {x} =
+      by-test (λ (t : List ℕ). x ≡ actedAs true from (used + length t) (finished p) → out′ ≡ sets out used t → move last (length out - used) p (drop from w) ≡ moves 0 t (finished p) → ActedTo last w out from used p out′ x) (atEvents (p .reading))
+      (λ _ is stored e. text-acts last w out from used p (endLine (p .reading .state .clock .0)) (finished p) is stored e (o .given) (o .within) (line-some _) (end-longest (p .reading .state .clock .0) time) (o .room))
+      (λ _ is stored e. stop-acts 14 is stored (omega arith) e)
+    where
+      time : p .reading .state .clock .0 < 2 ^ 32
+      time = let t = given-sound (given-reading (o .given) .given) .time in omega arith
 
 -- ---- one part after another
-pub acts-then : {last : Bool} {w out out₁ out₂ : List ℕ} {from used : ℕ} {p : Progress} {x y : Acted} → ActedTo last w out from used p out₁ x → x .goes ≡ true → ActedTo last w out₁ (x .at) (x .used) (x .progress) out₂ y → ActedTo last w out from used p out₂ y
-acts-then {last} {w} {out} {out₁} {out₂} {from} {used} {p} {x} {y} a g b = record {
+pub stage-room : {last : Bool} {w out out′ : List ℕ} {from used : ℕ} {p : Progress} {x : Acted} → Stage last w out from used p out′ x → length out′ ≡ length out
+stage-room {out = out} {used = used} s = ap length (s .along .stored) ∙ length-sets out used (s .along .text)
+
+pub stage-then : {last : Bool} {w out out₁ out₂ : List ℕ} {from used : ℕ} {p : Progress} {x y : Acted} → Stage last w out from used p out₁ x → Stage last w out₁ (x .at) (x .used) (x .progress) out₂ y → Stage last w out from used p out₂ y
+stage-then {last} {w} {y = y} a b = record {
   given = b .given;
   along = along-then last w (a .along) (b .along);
-  ends = λ f. subst (λ (n : ℕ). move last (n - y .used) (y .progress) (drop (y .at) w) ≡ stays) long (b .ends f);
-  less = λ f. lt-trans (subst (λ (n : ℕ). n - y .used + (length w - y .at) < n - x .used + (length w - x .at)) long (b .less f)) (a .less g);
+  ends = λ f. subst (λ (n : ℕ). move last (n - y .used) (y .progress) (drop (y .at) w) ≡ stays) (stage-room a) (b .ends f);
 }
-  where
-    long : length out₁ ≡ length out
-    long = ap length (a .along .stored) ∙ length-sets out used (a .along .text)
+
+pub acts-then : {last : Bool} {w out out₁ out₂ : List ℕ} {from used : ℕ} {p : Progress} {x y : Acted} → ActedTo last w out from used p out₁ x → x .goes ≡ true → ActedTo last w out₁ (x .at) (x .used) (x .progress) out₂ y → ActedTo last w out from used p out₂ y
+acts-then {w = w} {x = x} {y} a g b = record {
+  stage = stage-then (a .stage) (b .stage);
+  less = λ f. lt-trans (subst (λ (n : ℕ). n - y .used + (length w - y .at) < n - x .used + (length w - x .at)) (stage-room (a .stage)) (b .less f)) (a .less g);
+}
 
 -- where there is room after the ticks, all of them are listed
 pub all-listed : (p : Progress) (e : Record) (d : ℕ) → ticksDue (p .reading) e ≡ d → (out : List ℕ) (used : ℕ) (out′ : List ℕ) (u : ℕ) (y : State) → ListedTo out used (p .reading .state) d out′ u y → u + longest ≤ length out → ticksDue (withState (p .reading) y) e ≡ 0

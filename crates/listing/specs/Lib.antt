@@ -1,3 +1,4 @@
+pub mod Turns
 pub mod Way
 pub mod Moves
 pub mod Listed

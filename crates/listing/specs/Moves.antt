@@ -1,24 +1,23 @@
 -- Which move a call makes, by what the code has found.
-use mathlib.Core.Path.{_≡_, refl, sym, ap, _∙_, subst}
-use mathlib.Core.Bool.{Bool, true, false, cond, _||_}
+use mathlib.Core.Path.{_≡_, refl, ap, _∙_}
+use mathlib.Core.Bool.{Bool, true, false}
 use mathlib.Core.List.{List, []}
-use Prim.Native.Nat.{ℕ, zero, suc, _+_, _-_, _≤_, _<_}
+use Prim.Native.Nat.{ℕ, suc, _≤_, _<_}
 use native.Mathlib.Omega.{arith}
 use borrow.Author.Tests.{eq-eqb, ne-eqb, lt-ltb, le-ltb, le-leb, lt-leb}
-use lib.Dec.{ltb}
-use lib.ListN.{length, drop}
+use lib.ListN.{length}
 use Rattle.rules.specs.Limits.{nobody, maxJobs}
-use Rattle.rules.specs.Threads.{State, at}
+use Rattle.rules.specs.Threads.{at}
 use Rattle.rules.specs.Table.{Answer, Done, Refused}
-use Rattle.rules.specs.Records.{Frame, Ended, Cut, Whole, Record, Head, Decoded, Known, frameOf, bodyOf, decoded}
+use Rattle.rules.specs.Records.{Frame, Ended, Cut, Whole, Record, Decoded, Known, frameOf, bodyOf, decoded}
 use Rattle.rules.specs.Records as records
-use Rattle.rules.specs.Reading.{Reading, Read, readAs, withState, ticksDue, recordRead}
+use Rattle.rules.specs.Reading.{Reading, withState, ticksDue, recordRead}
 use Rattle.rules.specs.Input.{GivenReading}
 use Rattle.rules.specs.Listing.{tickLine, ending}
-use Rattle.windows.specs.Advance.{Progress, longest, widest, farthest, finished, went, ticked, Move, stays, moves, stops, readMove, recordMove, decodedMove, frameMove, move}
+use Rattle.windows.specs.Advance.{Progress, longest, widest, farthest, finished, went, ticked, stays, moves, stops, readMove, recordMove, decodedMove, frameMove, move}
 use Rattle.windows.specs.Plain.{touched, jobsAfter, recounted, plain-reads}
-use Rattle.windows.specs.Readings.{GoodReading, given-reading}
-use Rattle.listing.specs.declared.Seen.{Seen}
+use Rattle.windows.specs.Readings.{given-reading}
+use Rattle.listing.specs.declared.sweep.Seen.{Seen}
 use Rattle.listing.specs.Way.{nothingSeen, seenDecoded, seenFrame, seenAt}
 
 module _ (last : Bool) (room : ℕ) (p : Progress) (w : List ℕ) where

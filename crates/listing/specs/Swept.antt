@@ -4,7 +4,7 @@ use mathlib.Core.Bool.{Bool, true, false, cond}
 use borrow.Author.Tests.{ltb-true}
 use lib.Dec.{eqb, ltb}
 use mathlib.Core.List.{List, []}
-use Prim.Native.Nat.{ℕ, zero, suc, _+_, _-_, _≤_, _<_}
+use Prim.Native.Nat.{ℕ, _+_, _-_, _≤_, _<_}
 use native.Mathlib.Nat.{add-zero}
 use native.Mathlib.Omega.{arith}
 use lib.ListN.{length, drop, length-drop}
@@ -14,13 +14,13 @@ use Rattle.rules.specs.Records.{Frame, Ended, Cut, Whole, Record, Head, Decoded
 use Rattle.rules.specs.Records as records
 use Rattle.rules.specs.Reading.{Reading, Read, withState}
 use Rattle.rules.specs.Input.{GivenReading}
-use Rattle.windows.specs.Advance.{Progress, longest, farthest, moves, move, went}
+use Rattle.windows.specs.Advance.{Progress, longest, farthest}
 use Rattle.windows.specs.Plain.{atOnce, touched, jobsAfter, recounted, plain-reads}
 use Rattle.windows.specs.Readings.{given-reading, reading-by}
 use Rattle.windows.specs.Inputs.{whole-within}
 use Rattle.windows.specs.Along.{Along, along-none, along-then, along-move}
-use Rattle.listing.specs.declared.Seen.{Seen}
-use Rattle.listing.specs.Way.{nothingSeen, seenDecoded, seenFrame, seenAt, reachedAt, SweptTo}
+use Rattle.listing.specs.declared.sweep.Seen.{Seen}
+use Rattle.listing.specs.Way.{seenDecoded, seenFrame, seenAt, reachedAt, SweptTo}
 use Rattle.listing.specs.Moves.{moves-plain}
 
 -- a record that touches a thread is there
@@ -31,11 +31,11 @@ seen-within v t n some = frame (frameOf v) refl some
     Within : Seen → Type 0
     Within x = (touched (x .what) t n ≡ nobody → ⊥) → (0 < x .length) × (x .length ≤ length v)
 
-    decode : (kind k : ℕ) → frameOf v ≡ Whole kind k → (d : Decoded) → (touched (seenDecoded k d .what) t n ≡ nobody → ⊥) → (0 < seenDecoded k d .length) × (seenDecoded k d .length ≤ length v)
+    decode : (kind k : ℕ) → frameOf v ≡ Whole kind k → (d : Decoded) → Within (seenDecoded k d)
     decode kind k q (Known e) s = let h = whole-within v kind k q in (omega (arith, h .0), h .1)
     decode kind k q (records.Refused m) s = absurd (s refl)
 
-    frame : (f : Frame) → frameOf v ≡ f → (touched (seenFrame v f .what) t n ≡ nobody → ⊥) → (0 < seenFrame v f .length) × (seenFrame v f .length ≤ length v)
+    frame : (f : Frame) → frameOf v ≡ f → Within (seenFrame v f)
     frame Ended q s = absurd (s refl)
     frame Cut q s = absurd (s refl)
     frame (Whole kind k) q s = decode kind k q (decoded kind (bodyOf v k)) s

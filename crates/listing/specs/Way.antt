@@ -1,22 +1,23 @@
 -- What the parts of a call bring.
-use mathlib.Core.Path.{_≡_}
-use mathlib.Core.Bool.{Bool, true, false, not, _&&_}
-use lib.Dec.{eqb, ltb}
+use mathlib.Core.Path.{_≡_, refl, ap}
+use mathlib.Core.Bool.{Bool, true, false, cond}
 use mathlib.Core.List.{List}
 use Prim.Native.Nat.{ℕ, _+_, _-_, _≤_, _<_}
+use native.Mathlib.Omega.{arith}
 use lib.ListN.{length, drop}
 use lib.Seq.{sets}
 use Rattle.rules.specs.Threads.{State}
+use Rattle.rules.specs.Table.{Answer, Done, Refused, numberOf}
 use Rattle.rules.specs.Run.{stateAfter}
 use Rattle.rules.specs.Records.{Frame, Ended, Cut, Whole, Record, Head, Decoded, Known, frameOf, bodyOf, decoded}
 use Rattle.rules.specs.Records as records
-use Rattle.rules.specs.Reading.{Reading}
-use Rattle.rules.specs.Input.{GivenReading}
+use Rattle.rules.specs.Reading.{Reading, atEvents}
+use Rattle.rules.specs.Input.{GivenReading, endRead}
 use Rattle.rules.specs.Listing.{tickLines, refusalLine, endLine, ending}
 use Rattle.windows.specs.Advance.{Progress, longest, widest, farthest, stays, move, Advanced}
 use Rattle.windows.specs.Along.{Along}
 use Rattle.quantities.specs.declared.Turn.{Turn}
-use Rattle.listing.specs.declared.Seen.{Seen}
+use Rattle.listing.specs.declared.sweep.Seen.{Seen}
 use Rattle.listing.specs.declared.Acted.{Acted}
 
 -- the answer of a call
@@ -94,10 +95,6 @@ pub record Open (w out : List ℕ) (from used : ℕ) (p : Progress) : Type 0 whe
   pub within : from ≤ length w
   pub room : used + longest ≤ length out
 
--- all rows of a head with so many threads have come
-abbrev pub allRows : ℕ → ℕ → Bool
-allRows threads rows = not (eqb threads 0) && not (ltb rows threads)
-
 -- a listing that is not done
 abbrev pub reachedAt : Reading → ℕ → Progress
 reachedAt r place = record { reading = r; place = place; done = false }
@@ -108,20 +105,33 @@ actedAs goes at used p = record { goes = goes; at = at; used = used; progress = 
 pub acted-at : (goes : Bool) (at used u : ℕ) (p q : Progress) → u ≡ used → q ≡ p → record { goes = goes; at = at; used = u; progress = q } ≡ actedAs goes at used p
 acted-at goes at used u p q e f = rw (e, f)
 
--- how an input ends, by whether all rows have come
-pub ending-end : (r : Reading) (b : ℕ) → allRows (r .table .threads) (r .rows) ≡ true → ending r b ≡ endLine (r .state .clock .0)
-unfolding ending
-ending-end r b e = rw e
+-- ---- how an input ends, by what reading answers at its end
+module _ (r : Reading) (b : ℕ) where
+  pub ending-end : endRead r b .answer ≡ Done → ending r b ≡ endLine (r .state .clock .0)
+  unfolding ending
+  ending-end e = go (atEvents r) e
+    where
+      go : (t : Bool) → cond t Done (Refused 14) ≡ Done → cond t (endLine (r .state .clock .0)) (refusalLine 14 b) ≡ endLine (r .state .clock .0)
+      go true d = refl
+      go false d = absurd (omega (arith, ap numberOf d))
 
-pub ending-refused : (r : Reading) (b : ℕ) → allRows (r .table .threads) (r .rows) ≡ false → ending r b ≡ refusalLine 14 b
-unfolding ending
-ending-refused r b e = rw e
+  pub ending-refused : (n : ℕ) → endRead r b .answer ≡ Refused n → ending r b ≡ refusalLine n b
+  unfolding ending
+  ending-refused n e = go (atEvents r) e
+    where
+      go : (t : Bool) → cond t Done (Refused 14) ≡ Refused n → cond t (endLine (r .state .clock .0)) (refusalLine 14 b) ≡ refusalLine n b
+      go true d = let z : _≡_ {A = ℕ} 0 1 = cc in absurd (omega arith)
+      go false d = ap (λ (a : Answer). refusalLine (numberOf a) b) d
 
--- ---- a part of a call
-pub record ActedTo (last : Bool) (w out : List ℕ) (from used : ℕ) (p : Progress) (out′ : List ℕ) (x : Acted) : Type 0 where
+-- ---- where a call stands, and that it ends where there is no move
+pub record Stage (last : Bool) (w out : List ℕ) (from used : ℕ) (p : Progress) (out′ : List ℕ) (x : Acted) : Type 0 where
   pub given : GivenReading (x .progress .reading)
   pub along : Along last w out from used p out′ (x .at) (x .used) (x .progress)
   pub ends : x .goes ≡ false → move last (length out - x .used) (x .progress) (drop (x .at) w) ≡ stays
+
+-- ---- a part of a call, which goes on where it took or wrote a byte
+pub record ActedTo (last : Bool) (w out : List ℕ) (from used : ℕ) (p : Progress) (out′ : List ℕ) (x : Acted) : Type 0 where
+  pub stage : Stage last w out from used p out′ x
   pub less : x .goes ≡ true → length out - x .used + (length w - x .at) < length out - used + (length w - from)
 
 -- .. whether the window is the last or not

@@ -1,4 +1,5 @@
--- The same of the listing: any two answers, and any two contents of the lent output, are one.
+-- "Any two outcomes it allows are proved to be one", of the calls of the listing.
+-- κs: lifetimes; a: what is passed; r: the answer; s: what is lent, at the end.
 use mathlib.Core.Path.{_≡_}
 use Rattle.settled.specs.One.{one}
 use Rattle.listing.proofs.begin.Reads as begin

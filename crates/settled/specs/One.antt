@@ -1,5 +1,5 @@
 -- Document 01, "What each contract has to say": "Any two outcomes it allows are proved to be one". Stated of each public
--- function's own contract, as the proof of the code reads it, so that a contract weakened later fails here.
+-- function's own contract, as the proof of the code reads it, so that a contract weakened later fails here. This file: the tables and the schedule.
 -- κs: lifetimes; a: what is passed; r: the answer; s: what is lent, at the end.
 use mathlib.Core.Path.{_≡_, sym, _∙_}
 use Rattle.tables.proofs.head.Reads as head

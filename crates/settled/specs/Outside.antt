@@ -1,4 +1,5 @@
--- The same of the calls for C and Rust.
+-- "Any two outcomes it allows are proved to be one", of the calls for C and Rust.
+-- κs: lifetimes; a: what is passed; r: the answer; s: what is lent, at the end.
 use mathlib.Core.Path.{_≡_}
 use Rattle.settled.specs.One.{one}
 use Rattle.capi.proofs.bollardine_begin.Reads as begin
@@ -7,7 +8,7 @@ use Rattle.capi.proofs.bollardine_arrive.Reads as arrive
 use Rattle.capi.proofs.bollardine_drop.Reads as drop
 use Rattle.capi.proofs.bollardine_step.Reads as step
 use Rattle.capi.proofs.bollardine_run.Reads as run
-use Rattle.capi.proofs.bollardine_free_share.Reads as free-share
+use Rattle.capi.proofs.bollardine_free_share.Reads as free_share
 
 pub begin-one : (κs : _) (a : _) (r r' : _) (s s' : _) → begin.Learnt κs a r s → begin.Learnt κs a r' s' → r ≡ r'
 begin-one κs a r r' s s' p q = one p q
@@ -28,5 +29,5 @@ step-one κs a r r' s s' p q = one p q
 pub run-one : (κs : _) (a : _) (r r' : _) (s s' : _) → run.Learnt κs a r s → run.Learnt κs a r' s' → (r ≡ r') × (s .1 .1 .0 .now ≡ s' .1 .1 .0 .now)
 run-one κs a r r' s s' p q = (one (p .0) (q .0), one (p .1) (q .1))
 
-pub free-share-one : (κs : _) (a : _) (r r' : _) (s s' : _) → free-share.Learnt κs a r s → free-share.Learnt κs a r' s' → r ≡ r'
+pub free-share-one : (κs : _) (a : _) (r r' : _) (s s' : _) → free_share.Learnt κs a r s → free_share.Learnt κs a r' s' → r ≡ r'
 free-share-one κs a r r' s s' p q = one p q

@@ -7,6 +7,7 @@ use Rattle.reader.proofs.begin.Reads as begin
 use Rattle.reader.proofs.due.Reads as due
 use Rattle.reader.proofs.record.Reads as reads-record
 use Rattle.reader.proofs.read.Reads as read
+use Rattle.reader.proofs.ended.Reads as ended
 use Rattle.reader.proofs.input.Reads as input
 use Rattle.settled.specs.One.{one}
 
@@ -27,6 +28,9 @@ record-one κs a r r' s s' p q = one p q
 
 pub read-one : (κs : _) (a : _) (r r' : _) (s s' : _) → read.Learnt κs a r s → read.Learnt κs a r' s' → r ≡ r'
 read-one κs a r r' s s' p q = one p q
+
+pub ended-one : (κs : _) (a : _) (r r' : _) (s s' : _) → ended.Learnt κs a r s → ended.Learnt κs a r' s' → r ≡ r'
+ended-one κs a r r' s s' p q = one p q
 
 pub input-one : (κs : _) (a : _) (r r' : _) (s s' : _) → input.Learnt κs a r s → input.Learnt κs a r' s' → r ≡ r'
 input-one κs a r r' s s' p q = one p q

@@ -1,4 +1,5 @@
--- The same of the lines of the listing: any two answers, and any two contents of the lent slice, are one.
+-- "Any two outcomes it allows are proved to be one", of the functions that put lines: the answer and the lent slice.
+-- κs: lifetimes; a: what is passed; r: the answer; s: what is lent, at the end.
 use mathlib.Core.Path.{_≡_}
 use Rattle.settled.specs.One.{one}
 use Rattle.text.proofs.heading.Reads as heading

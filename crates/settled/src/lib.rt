@@ -1,1 +1,1 @@
-// That the contracts of the schedule settle every answer, in specs/; no code.
+// That each public contract settles its answer and what it was lent, in specs/; no code.

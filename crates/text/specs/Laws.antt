@@ -1,4 +1,4 @@
--- How long the texts are: at least a byte, and at most 64.
+-- How long the texts are: at most 64 bytes.
 use mathlib.Core.Path.{_≡_, refl, ap, _∙_}
 use mathlib.Core.List.{List, [], _∷_}
 use Prim.Native.Nat.{ℕ, suc, _+_, _^_, _<_, _≤_}
@@ -67,19 +67,3 @@ refusal-longest n b hn hb = omega (arith, refusal-length n b, decimal-8 n hn, de
 
 pub end-longest : (t : ℕ) → t < 2 ^ 32 → length (endLine t) ≤ longest
 end-longest t h = omega (arith, end-length t, decimal-32 t h)
-
--- ---- no text is empty
-pub heading-some : 1 ≤ length heading
-heading-some = omega (arith, heading-length)
-
-pub grant-some : (t j a : ℕ) (e w : ℤ) → 1 ≤ length (grantLine t j a e w)
-grant-some t j a e w = omega (arith, grant-length t j a e w, ended-length (decimal t) 32)
-
-pub idle-some : (t : ℕ) → 1 ≤ length (idleLine t)
-idle-some t = omega (arith, idle-length t)
-
-pub refusal-some : (n b : ℕ) → 1 ≤ length (refusalLine n b)
-refusal-some n b = omega (arith, refusal-length n b)
-
-pub end-some : (t : ℕ) → 1 ≤ length (endLine t)
-end-some t = omega (arith, end-length t)

@@ -15,7 +15,7 @@ ghost use Rattle.text.specs.Put.{Put, putOut, putTo, longest, ended, pai
 use quantities::Amount;
 
 // No line is longer.
-const LONGEST: usize = 64;
+pub const LONGEST: usize = 64;
 
 // Whether a slice of this length has room for a line from `at` on.
 fn has_room(length: usize, at: usize) -> bool

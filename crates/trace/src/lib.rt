@@ -12,6 +12,7 @@ use quantities::Moment;
 use quantities::Record;
 use quantities::Row;
 
+// A byte, with the bound that keeps its sums small.
 fn wide(b: u8) -> u32
     ensures { λ r. ⌜ (r ≡ b) × (r < 256) ⌝ }
 {
@@ -36,6 +37,7 @@ fn read32(s: &[u8], at: usize) -> u32
     read16(s, at) as u32 + 65536 * (read16(s, at + 2) as u32)
 }
 
+// What the body of a record of one kind says, where it has that kind's length; 14.
 fn head(b: &[u8]) -> Decoded
     ensures { λ r. ⌜ r ≡ sized 6 (now (b .entry)) (Head (le16 (now (b .entry)) 0) (le16 (now (b .entry)) 2)) ⌝ }
 {

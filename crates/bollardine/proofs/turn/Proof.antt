@@ -1,11 +1,9 @@
 use borrow.Author.Needs.{needs}
 use mathlib.Core.Bool.{Bool, true}
 use mathlib.Core.List.{List}
-use Prim.Native.Nat.{ℕ, _+_, _-_, _≤_}
+use Prim.Native.Nat.{ℕ, _+_, _≤_}
 use native.Mathlib.Nat.{min-le-left, le-trans}
-use native.Mathlib.Omega.{arith}
 use lib.ListN.{length, take, length-take}
-use Rattle.bollardine.specs.declared.Shell.{Shell}
 use Rattle.bollardine.specs.Shell.{Good, good-stopped, good-after}
 use Rattle.bollardine.proofs.turn.Statement.{statement}
 use Rattle.bollardine.proofs.turn.Tie as tie

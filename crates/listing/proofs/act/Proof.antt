@@ -1,20 +1,13 @@
 use borrow.Author.Needs.{needs}
-use mathlib.Core.Path.{_≡_, sym, ap, _∙_, subst}
-use mathlib.Core.Bool.{Bool, true, false}
-use mathlib.Core.List.{List}
-use Prim.Native.Nat.{ℕ, _+_, _-_, _≤_, _<_, _^_}
+use mathlib.Core.Path.{_≡_, sym, ap, _∙_}
 use native.Mathlib.Omega.{arith}
-use lib.ListN.{length, drop, length-drop}
-use Rattle.rules.specs.Records.{Frame, Ended, Cut, Whole, frameOf}
-use Rattle.promises.specs.Sound.{given-sound}
-use Rattle.windows.specs.Advance.{longest, farthest}
+use lib.ListN.{drop, length-drop}
+use Rattle.rules.specs.Records.{frameOf}
 use Rattle.windows.specs.Frames.{at-most}
 use Rattle.windows.specs.Inputs.{rest-part, whole-within}
-use Rattle.windows.specs.Readings.{given-reading}
-use Rattle.listing.specs.declared.Acted.{Acted}
 use Rattle.listing.specs.Acts.{stay-acts, stop-acts, ending-acts}
 use Rattle.listing.specs.Moves.{stays-done, stays-full, stays-far, stays-ended, moves-ended, stays-cut, moves-cut, moves-wide}
-use Rattle.listing.specs.Way.{Open, ActedTo}
+use Rattle.listing.specs.Way.{Open}
 use Rattle.listing.proofs.act.Statement.{statement}
 use Rattle.listing.proofs.act.Tie as tie
 
@@ -24,7 +17,7 @@ stay-requires c κs = search needs
 returns : tie.Need-returns
 returns c =
     let s = c .before .before .before .before in
-    subst (ActedTo (s .args .last) (s .args .w .now) (s .args .out .now) (s .args .at) (s .args .used) (s .args .p) (s .args .out .now)) (sym (c .stay .ensures)) (stay-acts (s .args .last) (s .args .w .now) (s .args .out .now) (s .args .at) (s .args .used) (s .args .p) (s .pre .0) (s .pre .1) (s .pre .2) (stays-done (s .args .last) (length (s .args .out .now) - s .args .used) (s .args .p) (drop (s .args .at) (s .args .w .now)) (c .before .if1 .taken)))
+    stay-acts (s .args .last) _ _ _ _ _ (c .stay .ensures) (s .pre .0) (s .pre .1) (s .pre .2) (stays-done _ _ _ _ (c .before .if1 .taken))
 
 sub-if2 : tie.Need-sub-if2
 sub-if2 c = search needs
@@ -35,7 +28,7 @@ stay-requires-2 c κs = search needs
 returns-2 : tie.Need-returns-2
 returns-2 c =
     let s = c .before .before .before .before .before in
-    subst (ActedTo (s .args .last) (s .args .w .now) (s .args .out .now) (s .args .at) (s .args .used) (s .args .p) (s .args .out .now)) (sym (c .stay2 .ensures)) (stay-acts (s .args .last) (s .args .w .now) (s .args .out .now) (s .args .at) (s .args .used) (s .args .p) (s .pre .0) (s .pre .1) (s .pre .2) (stays-full (s .args .last) (length (s .args .out .now) - s .args .used) (s .args .p) (drop (s .args .at) (s .args .w .now)) (c .before .before .if1 .left) (c .before .if2 .taken)))
+    stay-acts (s .args .last) _ _ _ _ _ (c .stay2 .ensures) (s .pre .0) (s .pre .1) (s .pre .2) (stays-full _ _ _ _ (c .before .before .if1 .left) (c .before .if2 .taken))
 
 stay-requires-3 : tie.Need-stay-requires-3
 stay-requires-3 c κs = search needs
@@ -43,7 +36,7 @@ stay-requires-3 c κs = search needs
 returns-3 : tie.Need-returns-3
 returns-3 c =
     let s = c .before .before .before .before .before .before .before in
-    subst (ActedTo (s .args .last) (s .args .w .now) (s .args .out .now) (s .args .at) (s .args .used) (s .args .p) (s .args .out .now)) (sym (c .stay3 .ensures)) (stay-acts (s .args .last) (s .args .w .now) (s .args .out .now) (s .args .at) (s .args .used) (s .args .p) (s .pre .0) (s .pre .1) (s .pre .2) (stays-far (s .args .last) (length (s .args .out .now) - s .args .used) (s .args .p) (drop (s .args .at) (s .args .w .now)) (c .before .before .before .before .if1 .left) (omega (arith, c .before .before .before .if2 .left)) (c .before .if3 .taken)))
+    stay-acts (s .args .last) _ _ _ _ _ (c .stay3 .ensures) (s .pre .0) (s .pre .1) (s .pre .2) (stays-far _ _ _ _ (c .before .before .before .before .if1 .left) (omega (arith, c .before .before .before .if2 .left)) (c .before .if3 .taken))
 
 -- a move can be made
 ready : (c : tie.Else3) → Open (c .before .before .before .before .before .before .args .w .now) (c .before .before .before .before .before .before .args .out .now) (c .before .before .before .before .before .before .args .at) (c .before .before .before .before .before .before .args .used) (c .before .before .before .before .before .before .args .p)
@@ -78,11 +71,9 @@ same-length c = search needs
 
 returns-4 : tie.Need-returns-4
 returns-4 c =
-    let s = c .before .before .before .before .before .before .before .before .before .before .before .before .before .before .before in
     let o = ready (c .before .before .before .before .before .before .before .before .before) in
-    let t = given-sound (given-reading (s .pre .0) .given) .time in
-    subst (ActedTo (s .args .last) (s .args .w .now) (s .args .out .now) (s .args .at) (s .args .used) (s .args .p) (c .before .before .finish .last .0)) (sym (c .before .before .finish .ensures .0))
-    (rw (c .before .before .finish .ensures .1) (ending-acts (s .args .last) (s .args .w .now) (s .args .out .now) (s .args .at) (s .args .used) (s .args .p) o (omega (arith, t)) (omega (arith, o .near)) (moves-ended (s .args .last) (length (s .args .out .now) - s .args .used) (s .args .p) (drop (s .args .at) (s .args .w .now)) (o .undone) (omega (arith, o .room)) (o .near) (sym (framed (c .before .before .before .before .before .before .before)) ∙ c .before .before .before .before .before .enum-told .given .1) (c .before .before .before .before .if4 .taken))))
+    let a = c .before .before .finish in
+    ending-acts _ _ _ _ _ _ o (a .ensures .0) (a .ensures .1) (moves-ended _ _ _ _ (o .undone) (omega (arith, o .room)) (o .near) (sym (framed (c .before .before .before .before .before .before .before)) ∙ c .before .before .before .before .before .enum-told .given .1) (c .before .before .before .before .if4 .taken))
 
 stay-requires-4 : tie.Need-stay-requires-4
 stay-requires-4 c κs = search needs
@@ -98,10 +89,9 @@ same-length-2 c = search needs
 
 returns-5 : tie.Need-returns-5
 returns-5 c =
-    let s = c .before .before .before .before .before .before .before .before .before .before .before .before .before .before .before in
     let o = ready (c .before .before .before .before .before .before .before .before .before) in
-    subst (ActedTo (s .args .last) (s .args .w .now) (s .args .out .now) (s .args .at) (s .args .used) (s .args .p) (c .before .before .stop .last .0)) (sym (c .before .before .stop .ensures .0))
-    (rw (c .before .before .stop .ensures .1) (stop-acts (s .args .last) (s .args .w .now) (s .args .out .now) (s .args .at) (s .args .used) (s .args .p) o 14 (omega arith) (moves-cut (s .args .last) (length (s .args .out .now) - s .args .used) (s .args .p) (drop (s .args .at) (s .args .w .now)) (o .undone) (omega (arith, o .room)) (o .near) (sym (framed (c .before .before .before .before .before .before .before)) ∙ c .before .before .before .before .before .enum-told2 .given .1) (c .before .before .before .before .if5 .taken)) (omega (arith, o .near))))
+    let a = c .before .before .stop in
+    stop-acts _ _ _ _ _ _ o 14 (a .ensures .0) (a .ensures .1) (omega arith) (moves-cut _ _ _ _ (o .undone) (omega (arith, o .room)) (o .near) (sym (framed (c .before .before .before .before .before .before .before)) ∙ c .before .before .before .before .before .enum-told2 .given .1) (c .before .before .before .before .if5 .taken))
 
 sub-if6 : tie.Need-sub-if6
 sub-if6 c = search needs
@@ -116,8 +106,8 @@ returns-6 : tie.Need-returns-6
 returns-6 c =
     let s = c .before .before .before .before .before .before .before .before .before .before .before .before .before .before .before .before in
     let o = ready (c .before .before .before .before .before .before .before .before .before .before) in
-    subst (ActedTo (s .args .last) (s .args .w .now) (s .args .out .now) (s .args .at) (s .args .used) (s .args .p) (c .before .before .stop2 .last .0)) (sym (c .before .before .stop2 .ensures .0))
-    (rw (c .before .before .stop2 .ensures .1) (stop-acts (s .args .last) (s .args .w .now) (s .args .out .now) (s .args .at) (s .args .used) (s .args .p) o 14 (omega arith) (moves-wide (s .args .last) (length (s .args .out .now) - s .args .used) (s .args .p) (drop (s .args .at) (s .args .w .now)) (o .undone) (omega (arith, o .room)) (o .near) (sym (framed (c .before .before .before .before .before .before .before .before)) ∙ c .before .before .before .before .before .before .enum-told2 .given .1) (c .before .before .before .before .before .if5 .left) (omega (arith, c .before .before .before .before .if6 .taken, length-drop (s .args .at) (s .args .w .now)))) (omega (arith, o .near))))
+    let a = c .before .before .stop2 in
+    stop-acts _ _ _ _ _ _ o 14 (a .ensures .0) (a .ensures .1) (omega arith) (moves-wide _ _ _ _ (o .undone) (omega (arith, o .room)) (o .near) (sym (framed (c .before .before .before .before .before .before .before .before)) ∙ c .before .before .before .before .before .before .enum-told2 .given .1) (c .before .before .before .before .before .if5 .left) (omega (arith, c .before .before .before .before .if6 .taken, length-drop (s .args .at) (s .args .w .now))))
 
 stay-requires-5 : tie.Need-stay-requires-5
 stay-requires-5 c κs = search needs
@@ -135,13 +125,14 @@ whole-requires c κs =
 
 returns-7 : tie.Need-returns-7
 returns-7 c =
-    let s = c .before .before .before .before .before .before .before .before .before .before .before .before in
-    subst (ActedTo (s .args .last) (s .args .w .now) (s .args .out .now) (s .args .at) (s .args .used) (s .args .p) (s .args .out .now)) (sym (c .stay4 .ensures)) (stay-acts (s .args .last) (s .args .w .now) (s .args .out .now) (s .args .at) (s .args .used) (s .args .p) (s .pre .0) (s .pre .1) (s .pre .2) (let o = ready (c .before .before .before .before .before .before) in stays-ended (s .args .last) (length (s .args .out .now) - s .args .used) (s .args .p) (drop (s .args .at) (s .args .w .now)) (o .undone) (omega (arith, o .room)) (o .near) (sym (framed (c .before .before .before .before)) ∙ c .before .before .enum-told .given .1) (c .before .if4 .left)))
+    let o = ready (c .before .before .before .before .before .before) in
+    stay-acts _ _ _ _ _ _ (c .stay4 .ensures) (o .given) (o .within) (c .before .before .before .before .before .before .before .before .before .before .before .before .pre .2) (stays-ended _ _ _ _ (o .undone) (omega (arith, o .room)) (o .near) (sym (framed (c .before .before .before .before)) ∙ c .before .before .enum-told .given .1) (c .before .if4 .left))
 
 returns-8 : tie.Need-returns-8
 returns-8 c =
     let s = c .before .before .before .before .before .before .before .before .before .before .before .before .before in
-    subst (ActedTo (s .args .last) (s .args .w .now) (s .args .out .now) (s .args .at) (s .args .used) (s .args .p) (s .args .out .now)) (sym (c .stay5 .ensures)) (stay-acts (s .args .last) (s .args .w .now) (s .args .out .now) (s .args .at) (s .args .used) (s .args .p) (s .pre .0) (s .pre .1) (s .pre .2) (let o = ready (c .before .before .before .before .before .before .before) in stays-cut (s .args .last) (length (s .args .out .now) - s .args .used) (s .args .p) (drop (s .args .at) (s .args .w .now)) (o .undone) (omega (arith, o .room)) (o .near) (sym (framed (c .before .before .before .before .before)) ∙ c .before .before .before .enum-told2 .given .1) (c .before .before .if5 .left) (omega (arith, c .before .if6 .left, length-drop (s .args .at) (s .args .w .now)))))
+    let o = ready (c .before .before .before .before .before .before .before) in
+    stay-acts _ _ _ _ _ _ (c .stay5 .ensures) (o .given) (o .within) (s .pre .2) (stays-cut _ _ _ _ (o .undone) (omega (arith, o .room)) (o .near) (sym (framed (c .before .before .before .before .before)) ∙ c .before .before .before .enum-told2 .given .1) (c .before .before .if5 .left) (omega (arith, c .before .if6 .left, length-drop (s .args .at) (s .args .w .now))))
 
 same-length-4 : tie.Need-same-length-4
 same-length-4 c = search needs

@@ -1,15 +1,13 @@
 use borrow.Author.Needs.{needs}
 use mathlib.Core.Path.{_≡_, sym, ap, _∙_, subst}
-use Prim.Native.Nat.{ℕ, _+_, _<_, _≤_, _^_}
-use native.Mathlib.Omega.{arith}
-use Rattle.rules.specs.Table.{Answer, Done, Refused}
-use Rattle.rules.specs.Reading.{Reading, Read, recordRead}
+use Prim.Native.Nat.{_+_, _<_, _^_}
+use Rattle.rules.specs.Table.{Answer, Done}
+use Rattle.rules.specs.Reading.{Read, recordRead}
 use Rattle.rules.specs.Input.{GivenReading}
 use Rattle.windows.specs.Advance.{Progress}
 use Rattle.windows.specs.Readings.{reading-by}
-use Rattle.listing.specs.declared.Acted.{Acted}
 use Rattle.listing.specs.Acts.{refused-acts, read-acts}
-use Rattle.listing.specs.Way.{SweptTo, ActedTo}
+use Rattle.listing.specs.Way.{SweptTo}
 use Rattle.listing.proofs.apply.Statement.{statement}
 use Rattle.listing.proofs.apply.Tie as tie
 
@@ -39,9 +37,7 @@ returns c =
     let s = c .before .before .before .before .before .before .before .before .before .before .before in
     record {
       any = λ last.
-          subst (λ (x : Acted). ActedTo last (s .args .w .now) (s .args .out .now) (s .args .at) (s .args .used) (s .args .p) (c .before .before .stop .last .0) x) (sym (c .before .before .stop .ensures .0))
-          (rw (c .before .before .stop .ensures .1)
-          (refused-acts last _ _ _ _ _ (s .pre .0) _ _ (s .pre .1) (s .pre .2) _ (small c) _ (read-as f _ (c .before .before .before .before .before .a .given .1)) (omega (arith, s .pre .0 .near))));
+          refused-acts last _ _ _ _ _ (s .pre .0) _ _ (s .pre .1) _ (c .before .before .stop .ensures .0) (c .before .before .stop .ensures .1) (s .pre .2) (small c) _ (read-as f _ (c .before .before .before .before .before .a .given .1));
     }
 
 enum-told : tie.Need-enum-told

@@ -1,5 +1,5 @@
-use mathlib.Core.Path.{sym, _∙_}
-use borrow.Author.Tests.{not-true, not-false}
+use mathlib.Core.Path.{_≡_, sym, ap, _∙_}
+use Rattle.rules.specs.Input.{InputRead, endRead}
 use Rattle.rules.specs.Listing.{endLine}
 use Rattle.text.specs.Room.{put-room}
 use Rattle.listing.specs.Way.{acted-at, ending-end, ending-refused}
@@ -7,8 +7,15 @@ use borrow.Author.Needs.{needs}
 use Rattle.listing.proofs.finish.Statement.{statement}
 use Rattle.listing.proofs.finish.Tie as tie
 
-at-events-requires : tie.Need-at-events-requires
-at-events-requires c κs = search needs
+ended-requires : tie.Need-ended-requires
+ended-requires c κs = search needs
+
+-- what reading answers at the end of the input
+answered : (c : tie.After-ended) → c .ended .result .answer ≡ endRead (c .before .before .args .p .reading) (c .before .before .args .p .place) .answer
+answered c = ap (λ (x : InputRead). x .answer) (c .ended .ensures)
+
+enum-known-a : tie.Need-enum-known-a
+enum-known-a c = search needs
 
 stop-requires : tie.Need-stop-requires
 stop-requires c κs = search needs
@@ -18,9 +25,12 @@ same-length c = search needs
 
 returns : tie.Need-returns
 returns c =
-    let s = c .before .before .before .before .before .before .before in
-    let e = ending-refused (s .args .p .reading) (s .args .p .place) (sym (c .before .before .before .before .before .at-events .ensures) ∙ not-true _ (c .before .before .before .before .if1 .taken)) in
-    rw e (c .before .before .stop .ensures)
+    let f = c .before .before .before .before .before .before .before in
+    let s = f .before .before in
+    rw (ending-refused (s .args .p .reading) (s .args .p .place) _ (sym (answered f) ∙ c .before .before .before .before .before .a .given .1)) (c .before .before .stop .ensures)
+
+enum-told : tie.Need-enum-told
+enum-told c = search needs
 
 end-requires : tie.Need-end-requires
 end-requires c κs = search needs
@@ -33,20 +43,23 @@ same-length-2 c = search needs
 
 returns-2 : tie.Need-returns-2
 returns-2 c =
-    let s = c .before .before .before .before .before .before .before .before in
     let t = c .before .before .before .end in
-    let e = ending-end (s .args .p .reading) (s .args .p .place) (sym (c .before .before .before .before .before .before .at-events .ensures) ∙ not-false _ (c .before .before .before .before .before .if1 .left)) in
-    let f = put-room (s .args .out .now) (s .args .used) (endLine (s .args .p .reading .state .clock .0)) (s .pre) in
-    rw e (acted-at _ _ _ _ _ _ (t .ensures .0 ∙ f .0) (c .done-with .ensures), t .ensures .1 ∙ f .1)
+    let d = c .before .before .before .before .before in
+    let f = d .before .before in
+    let s = f .before .before in
+    let e = put-room (s .args .out .now) (s .args .used) (endLine (s .args .p .reading .state .clock .0)) (s .pre) in
+    rw (ending-end (s .args .p .reading) (s .args .p .place) (sym (answered f) ∙ d .enum-told .given .1)) (acted-at _ _ _ _ _ _ (t .ensures .0 ∙ e .0) (c .done-with .ensures), t .ensures .1 ∙ e .1)
 
 pub finish-spec : {M : Type 1} → statement M
 finish-spec =
     tie.close
     (tie.spec
-    at-events-requires
+    ended-requires
+    enum-known-a
     stop-requires
     same-length
     returns
+    enum-told
     end-requires
     done-with-requires
     same-length-2

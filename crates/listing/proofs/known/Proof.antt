@@ -1,11 +1,10 @@
 use borrow.Author.Needs.{needs}
-use mathlib.Core.Path.{_≡_, refl, sym, ap, _∙_, subst}
+use mathlib.Core.Path.{refl, sym, ap, _∙_, subst}
 use mathlib.Core.Bool.{Bool, true}
-use Prim.Native.Nat.{ℕ, _+_, _<_, _≤_}
+use Prim.Native.Nat.{_≤_}
 use native.Mathlib.Omega.{arith}
-use lib.ListN.{length}
 use Rattle.rules.specs.Reading.{ticksDue}
-use Rattle.windows.specs.Advance.{Progress}
+use Rattle.windows.specs.Advance.{Progress, farthest}
 use Rattle.windows.specs.Readings.{given-reading}
 use Rattle.listing.specs.Acts.{ticks-fit, ticks-act, acts-then, all-listed}
 use Rattle.listing.specs.Listed.{same-room}
@@ -58,7 +57,7 @@ apply-requires-2 c κs =
     let s = c .before .before .before .before .before .before .before .before .before .before .before .before .before in
     let l = t .ticks .ensures in
     let same = same-room _ _ (s .args .p .reading .state) _ (l .count) (l .listed) in (
-      record { given = listed d true .given; undone = ap (λ (q : Progress). q .done) (d .reached .ensures); near = subst (λ (q : Progress). q .place ≤ 18446744073709486078) (sym (d .reached .ensures)) (s .pre .0 .near); within = s .pre .0 .within; room = omega (arith, c .before .if2 .left, l .listed .fits, same) },
+      record { given = listed d true .stage .given; undone = ap (λ (q : Progress). q .done) (d .reached .ensures); near = subst (λ (q : Progress). q .place ≤ farthest) (sym (d .reached .ensures)) (s .pre .0 .near); within = s .pre .0 .within; room = omega (arith, c .before .if2 .left, l .listed .fits, same) },
       s .pre .1,
       ap (λ (q : Progress). ticksDue (q .reading) (s .args .e)) (d .reached .ensures)
           ∙ all-listed (s .args .p) (s .args .e) _ (sym (t .before .before .before .due .ensures)) _ _ _ _ _ l (omega (arith, c .before .if2 .left, l .listed .fits, same)),

@@ -1,16 +1,13 @@
 use borrow.Author.Needs.{needs}
-use mathlib.Core.Path.{_≡_, sym, ap, _∙_, subst}
-use mathlib.Core.List.{List}
-use Prim.Native.Nat.{ℕ, _-_, _<_, _^_}
+use mathlib.Core.Path.{_≡_, sym, ap, _∙_}
+use Prim.Native.Nat.{_<_, _^_}
 use native.Mathlib.Omega.{arith}
-use lib.ListN.{length, drop}
-use Rattle.rules.specs.Records.{Decoded, Known, bodyOf, decoded}
-use Rattle.rules.specs.Records as records
+use lib.ListN.{drop}
+use Rattle.rules.specs.Records.{bodyOf, decoded}
 use Rattle.windows.specs.Inputs.{body-part}
-use Rattle.listing.specs.declared.Acted.{Acted}
 use Rattle.listing.specs.Acts.{stop-acts}
 use Rattle.listing.specs.Moves.{moves-refused}
-use Rattle.listing.specs.Way.{seen-known, ActedTo}
+use Rattle.listing.specs.Way.{seen-known}
 use Rattle.listing.proofs.whole.Statement.{statement}
 use Rattle.listing.proofs.whole.Tie as tie
 
@@ -71,9 +68,8 @@ returns-2 c =
     let f = s .pre .1 in
     record {
       any = λ last.
-          subst (λ (x : Acted). ActedTo last (s .args .w .now) (s .args .out .now) (s .args .at) (s .args .used) (s .args .p) (c .before .before .stop .last .0) x) (sym (c .before .before .stop .ensures .0))
-          (rw (c .before .before .stop .ensures .1)
-          (stop-acts last _ _ _ _ _ o _ (small c) (moves-refused last (length (s .args .out .now) - s .args .used) (s .args .p) (drop (s .args .at) (s .args .w .now)) (o .undone) (omega (arith, o .room)) (o .near) _ _ _ (f .is) (sym (says (c .before .before .before .before .before .before .before)) ∙ c .before .before .before .before .before .d2 .given .1)) (omega (arith, o .near))));
+          stop-acts last _ _ _ _ _ o _ (c .before .before .stop .ensures .0) (c .before .before .stop .ensures .1) (small c)
+          (moves-refused _ _ _ _ (o .undone) (omega (arith, o .room)) (o .near) _ _ _ (f .is) (sym (says (c .before .before .before .before .before .before .before)) ∙ c .before .before .before .before .before .d2 .given .1));
     }
 
 pub whole-spec : {M : Type 1} → statement M
