@@ -6,14 +6,17 @@ STEP = "crates/schedule/src/step.rt"
 PASSES = "crates/schedule/src/passes.rt"
 TABLES = "crates/tables/src/lib.rt"
 TRACE = "crates/trace/src/lib.rt"
-READER = "crates/reader/src/lib.rt"
+READING_EVENTS = "crates/reader/src/events.rt"
+READING_TABLE = "crates/reader/src/table.rt"
 LISTING = "crates/listing/src/lib.rt"
+SWEEP = "crates/listing/src/sweep.rt"
+TICKS = "crates/listing/src/ticks.rt"
 TEXT = "crates/text/src/lib.rt"
 
 CHOICE = "    if b == Table::NOBODY {\n        return idle_tick(z);\n    }\n    charge(z, b, free, best)\n"
 PERIOD = "scaled(t.share, Moment(t.period))"
 # a record that the listing sweeps changes the jobs of a thread and nothing else: with this no arrival is swept
-NO_SWEEP = (LISTING, "    t.jobs + 1\n", "    65536\n")
+NO_SWEEP = (SWEEP, "    t.jobs + 1\n", "    TOO_MANY\n")
 
 ALIKE = {
     # ---- step 1, completion
@@ -124,18 +127,18 @@ ALIKE = {
     # ---- drops
     "drop-head": [
         (EVENTS, "    if t.jobs > 1 {\n        u.jobs = 1;\n    }\n", "    u.jobs = 0;\n"),
-        (LISTING, "{ if t.jobs > 1 { 1 } else { t.jobs } }", "0,"),
+        (SWEEP, "{ if t.jobs > 1 { 1 } else { t.jobs } }", "0,"),
     ],
     "drop-nothing": [
-        (EVENTS, "        u.jobs = 1;\n", "        u.jobs = t.jobs;\n"), (LISTING, "{ if t.jobs > 1 { 1 } else { t.jobs } }", "t.jobs,"),
+        (EVENTS, "        u.jobs = 1;\n", "        u.jobs = t.jobs;\n"), (SWEEP, "{ if t.jobs > 1 { 1 } else { t.jobs } }", "t.jobs,"),
     ],
     "drop-one": [
         (EVENTS, "        u.jobs = 1;\n", "        u.jobs = t.jobs - 1;\n"),
-        (LISTING, "{ if t.jobs > 1 { 1 } else { t.jobs } }", "{ if t.jobs > 1 { t.jobs - 1 } else { t.jobs } }"),
+        (SWEEP, "{ if t.jobs > 1 { 1 } else { t.jobs } }", "{ if t.jobs > 1 { t.jobs - 1 } else { t.jobs } }"),
     ],
     "drop-brings-leaving": [
         (EVENTS, "    let mut z = s;\n    z.threads[k] = u;\n    Answered {", "    let mut y = s;\n    y.threads[k] = u;\n    let z = leaving(y);\n    Answered {"),
-        (LISTING, "{ if t.jobs > 1 { 1 } else { t.jobs } }", "65536,"),
+        (SWEEP, "{ if t.jobs > 1 { 1 } else { t.jobs } }", "TOO_MANY,"),
     ],
     # ---- runs and tables
     "seventeen-before-thirteen": [
@@ -158,18 +161,20 @@ ALIKE = {
     "big-endian": [(TRACE, "(low + 256 * high) as u16", "(256 * low + high) as u16")],
     "length-below-two": [(TRACE, "    if n < 2 {\n        return Frame::Cut;\n    }\n", "")],
     "eight-before-thirteen": [
-        (READER, "        Record::Arrival(m, i) => thread_answer(now, count, m, i),\n",
+        (READING_EVENTS, "        Record::Arrival(m, i) => thread_answer(now, count, m, i),\n",
          "        Record::Arrival(m, i) => { if (i as usize) < count { moment_answer(now, m) } else { Answer::Refused(8) } }\n"),
     ],
-    "head-anywhere": [(READER, "    if old.threads != 0 {\n        return refused(16, r);\n    }\n", "")],
-    "rows-may-miss": [(LISTING, "    if !at_events(p.reading.table.threads, p.reading.rows) {\n        return stop(out, at, used, p, 14);\n    }\n", "")],
+    "head-anywhere": [(READING_TABLE, "    if old.threads != 0 {\n        return refused(16, r);\n    }\n", "")],
+    "rows-may-miss": [
+        (LISTING, "    if let Answer::Refused(n) = a {\n        return stop(out, at, used, p, n);\n    }\n    let to", "    let to"),
+    ],
     "deadline-before-fitting": [
-        (LISTING, "        z = next(z);\n", "        let y = z;\n        z = next(z);\n"),
-        (LISTING, "            used = text::granted(out, used, tick, b as u16, t.app, t.e, t.w);", "            let x = y.threads[b];\n            used = text::granted(out, used, tick, b as u16, t.app, x.e, t.w);"),
+        (TICKS, "        z = next(z);\n", "        let y = z;\n        z = next(z);\n"),
+        (TICKS, "            used = text::granted(out, used, tick, b as u16, t.app, t.e, t.w);", "            let x = y.threads[b];\n            used = text::granted(out, used, tick, b as u16, t.app, x.e, t.w);"),
     ],
     "virtual-before-charge": [
-        (LISTING, "        z = next(z);\n", "        let y = z;\n        z = next(z);\n"),
-        (LISTING, "            used = text::granted(out, used, tick, b as u16, t.app, t.e, t.w);", "            let x = y.threads[b];\n            used = text::granted(out, used, tick, b as u16, t.app, t.e, x.w);"),
+        (TICKS, "        z = next(z);\n", "        let y = z;\n        z = next(z);\n"),
+        (TICKS, "            used = text::granted(out, used, tick, b as u16, t.app, t.e, t.w);", "            let x = y.threads[b];\n            used = text::granted(out, used, tick, b as u16, t.app, t.e, x.w);"),
     ],
     "refused-at-the-end": [
         (LISTING, "    if let Answer::Refused(m) = a {\n        return stop(out, at, used, p, m);\n    }\n    let next", "    if let Answer::Refused(m) = a {\n        return stop(out, at, used, reached(r, place + n as u64), m);\n    }\n    let next"),

@@ -22,7 +22,7 @@ use Rattle.windows.specs.Ticks.{before-end}
 use Rattle.windows.specs.Advance.{Progress, longest, widest, farthest, finished, ticked, Move, stays, moves, stops, readMove, recordMove, decodedMove, frameMove, move, still, joined, moved, advanced, advance}
 
 -- ---- a line is never empty
-line-some : (ws : List (List ℕ)) → 1 ≤ length (line ws)
+pub line-some : (ws : List (List ℕ)) → 1 ≤ length (line ws)
 unfolding line bytes
 line-some [] = omega arith
 line-some (w ∷ []) = omega (arith, length-append w (bytes "\n"))
