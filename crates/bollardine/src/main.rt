@@ -1,9 +1,10 @@
 // The program: a trace from standard input, or from the file that is named, and its listing on
 // standard output. It only reads, calls and writes.
-ghost use Prim.Native.Nat.{_≤_};
-ghost use lib.ListN.{length};
+ghost use Prim.Native.Nat.{_-_, _≤_};
+ghost use lib.ListN.{length, take, drop};
+ghost use mathlib.Core.Bool.{true};
 ghost use mathlib.Core.Path.{_≡_};
-ghost use Rattle.bollardine.specs.Shell.{Good, stopped};
+ghost use Rattle.bollardine.specs.Shell.{Good, stopped, FailedOr, Filled, Turned};
 use quantities::Progress;
 
 // A listing while the program runs: its progress, the part of the buffer that holds what was read
@@ -21,6 +22,8 @@ pub struct Shell {
 // Moves the bytes of buf from `from` up to `to` to its start.
 fn shift(buf: &mut [u8], from: usize, to: usize)
     requires { ⌜ (from ≤ to) × (to ≤ length (now buf)) ⌝ }
+    ensures { λ _. ⌜ take (to - from) (now (buf .exit)) ≡ take (to - from) (drop from (now (buf .entry))) ⌝ }
+    ensures { λ _. ⌜ length (now (buf .exit)) ≡ length (now (buf .entry)) ⌝ }
 {
     let mut i = from;
     let mut o: usize = 0;
@@ -42,7 +45,9 @@ fn ended(s: Shell) -> Shell
 // Reads on behind what is left of the input, where more is wanted.
 fn fill(fd: i32, buf: &mut [u8], s: Shell) -> Shell
     requires { ⌜ Good (length (now buf)) s ⌝ }
+    requires { ⌜ s .going ≡ true ⌝ }
     ensures { λ r. ⌜ Good (length (now (buf .entry))) r ⌝ }
+    ensures { λ r. ⌜ FailedOr s r (Filled (now (buf .entry)) (now (buf .exit)) s r) ⌝ }
 {
     if !s.hungry {
         return s;
@@ -72,7 +77,9 @@ fn fill(fd: i32, buf: &mut [u8], s: Shell) -> Shell
 // One call of the listing, and what it wrote.
 fn turn(fd: i32, buf: &mut [u8], out: &mut [u8], s: Shell) -> Shell
     requires { ⌜ Good (length (now buf)) s ⌝ }
+    requires { ⌜ s .going ≡ true ⌝ }
     ensures { λ r. ⌜ Good (length (now (buf .entry))) r ⌝ }
+    ensures { λ r. ⌜ FailedOr s r (Turned (now (buf .entry)) (now (buf .exit)) (length (now (out .entry))) s r) ⌝ }
 {
     let f = fill(fd, buf, s);
     if !f.going {

@@ -37,7 +37,7 @@ loop-holds : tie.Need-loop-holds Inv-loop μ-loop
 loop-holds c = (refl, refl, record { ordered = omega arith; within = omega arith; given = subst GivenProgress (sym (c .begin .ensures)) given-begun })
 
 turn-requires : tie.Need-turn-requires Inv-loop μ-loop
-turn-requires c κs = c .before .before .before .before .loop .inv .2
+turn-requires c κs = (c .before .before .before .before .loop .inv .2, c .before .before .if2 .taken)
 
 add-n : tie.Need-add-n Inv-loop μ-loop
 add-n c = record { fits = omega (arith, c .before .before .before .before .before .before .before .before .loop-test .taken) }
@@ -50,7 +50,7 @@ loop-again c =
     let t = c .before .before .before .before in
     let l = t .before .before .before .before .before .loop in
     let k = t .turn .kept .1 in
-    (k .0 ∙ l .inv .0, k .1 .0 ∙ l .inv .1, subst (λ (m : ℕ). Good m (t .turn .result)) (sym (k .0)) (t .turn .ensures))
+    (k .0 ∙ l .inv .0, k .1 .0 ∙ l .inv .1, subst (λ (m : ℕ). Good m (t .turn .result)) (sym (k .0)) (t .turn .ensures .0))
 
 same-length-2 : tie.Need-same-length-2 Inv-loop μ-loop
 same-length-2 c = search needs
