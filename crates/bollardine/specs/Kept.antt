@@ -9,6 +9,7 @@ use lib.ListN.{length, take, drop, length-drop}
 use lib.Seq.{take-nil, take-add, drop-drop, length-take-le}
 use Rattle.quantities.specs.declared.Turn.{Turn}
 use Rattle.windows.specs.Advance.{Progress, GivenProgress, advance}
+use Rattle.windows.specs.Feeding.{Bytes, take-bytes, drop-bytes}
 use Rattle.windows.specs.Progresses.{progress-by}
 use Rattle.listing.specs.Way.{turnOf}
 use Rattle.bollardine.specs.declared.Shell.{Shell}
@@ -43,7 +44,7 @@ good-after {n} {s} g t last room w e h hungry going = record {
 pub stays-filled : (b : List ℕ) (s : Shell) → s .going ≡ true → wants s ≡ false → Filled b b s s
 stays-filled b s on none = record {
   got = [];
-  came = record { unwanted = λ _. refl; ends = as-it-was (s .last) (wants s) none };
+  came = record { bytes = λ i. omega arith; unwanted = λ _. refl; ends = as-it-was (s .last) (wants s) none };
   behind = sym (append-nil (window b s));
   same = refl;
   going = on;
@@ -68,10 +69,11 @@ last-wants s e = by (s .hungry)
     by false = refl
 
 -- n bytes were read behind the window, which had been moved to the start of the buffer
-pub read-filled : (b b′ : List ℕ) (s : Shell) (n : ℕ) → s .hungry ≡ true → s .last ≡ false → take (s .end - s .start) b′ ≡ window b s → s .end - s .start + n ≤ length b′ → Filled b b′ s (record { progress = s .progress; start = 0; end = s .end - s .start + n; last = eqb n 0; hungry = false; going = true })
-read-filled b b′ s n hungry more moved fits = record {
+pub read-filled : (b b′ : List ℕ) (s : Shell) (n : ℕ) → s .hungry ≡ true → s .last ≡ false → take (s .end - s .start) b′ ≡ window b s → s .end - s .start + n ≤ length b′ → Bytes b′ → Filled b b′ s (record { progress = s .progress; start = 0; end = s .end - s .start + n; last = eqb n 0; hungry = false; going = true })
+read-filled b b′ s n hungry more moved fits bytes = record {
   got = take n (drop kept b′);
   came = record {
+    bytes = take-bytes n (drop kept b′) (drop-bytes kept b′ bytes);
     unwanted = λ none. absurd (wanted none);
     ends = rw (hungry, more) (ap (λ (k : ℕ). eqb k 0) (sym (length-take-le n (drop kept b′) (omega (arith, length-drop kept b′)))));
   };
@@ -101,8 +103,8 @@ left-of b start end n =
     ∙ sym (drop-take n (end - start) (drop start b))
 
 -- after the call that is handed the window of f
-pub call-turned : (b b′ : List ℕ) (room : ℕ) (s f : Shell) → Filled b b′ s f → (t : Turn) → t ≡ turnOf (advance (f .last) room (f .progress) (window b′ f)) → (still going : Bool) → still ≡ (eqb (t .taken) 0 && eqb (t .written) 0) → Turned b b′ room s (record { progress = t .progress; start = f .start + t .taken; end = f .end; last = f .last; hungry = still; going = going })
-call-turned b b′ room s f filled t is still going e = record {
+pub call-turned : (b b′ : List ℕ) (room : ℕ) (s f : Shell) → Filled b b′ s f → (t : Turn) → t ≡ turnOf (advance (f .last) room (f .progress) (window b′ f)) → t .taken ≤ length (window b′ f) → (still going : Bool) → still ≡ (eqb (t .taken) 0 && eqb (t .written) 0) → Turned b b′ room s (record { progress = t .progress; start = f .start + t .taken; end = f .end; last = f .last; hungry = still; going = going })
+call-turned b b′ room s f filled t is within still going e = record {
   got = filled .got;
   came = filled .came;
   brought = subst (λ (w : List ℕ). Brought b′ r w (advance (f .last) room (s .progress) w)) (filled .behind) (subst (λ (p : Progress). Brought b′ r (window b′ f) (advance (f .last) room p (window b′ f))) (filled .same) brings);
@@ -114,9 +116,10 @@ call-turned b b′ room s f filled t is still going e = record {
     brings : Brought b′ r (window b′ f) (advance (f .last) room (f .progress) (window b′ f))
     brings = record {
       progress = ap (λ (x : Turn). x .progress) is;
+      within = subst (λ (x : Turn). x .taken ≤ length (window b′ f)) is within;
       left = left-of b′ (f .start) (f .end) (t .taken) ∙ ap (λ (x : Turn). drop (x .taken) (window b′ f)) is;
       hungry = e ∙ ap (λ (x : Turn). eqb (x .taken) 0 && eqb (x .written) 0) is;
     }
 
 pub turned-stopped : {b b′ : List ℕ} {room : ℕ} {s z r : Shell} → Turned b b′ room s z → r ≡ stopped z → Turned b b′ room s r
-turned-stopped {b} {b′} {room} {s} t e = subst (Turned b b′ room s) (sym e) (record { got = t .got; came = t .came; brought = record { progress = t .brought .progress; left = t .brought .left; hungry = t .brought .hungry } })
+turned-stopped {b} {b′} {room} {s} t e = subst (Turned b b′ room s) (sym e) (record { got = t .got; came = t .came; brought = record { progress = t .brought .progress; within = t .brought .within; left = t .brought .left; hungry = t .brought .hungry } })

@@ -6,6 +6,7 @@ use Prim.Native.Nat.{ℕ, _-_, _≤_}
 use lib.Dec.{eqb}
 use lib.ListN.{length, take, drop}
 use Rattle.windows.specs.Advance.{GivenProgress, Advanced, advance}
+use Rattle.windows.specs.Feeding.{Bytes}
 use Rattle.bollardine.specs.declared.Shell.{Shell}
 
 -- the window lies within a buffer of n bytes, and the listing is one that calls gave
@@ -33,6 +34,7 @@ wants s = s .hungry && not (s .last)
 
 -- the bytes `got` came behind what s had, and `last` is whether the input has ended behind them
 pub record Came (s : Shell) (got : List ℕ) (last : Bool) : Type 0 where
+  pub bytes : Bytes got
   -- none came where none were wanted
   pub unwanted : wants s ≡ false → got ≡ []
   -- the input has ended where it had before, and where a read brought no byte
@@ -54,6 +56,7 @@ pub record Brought (b : List ℕ) (r : Shell) (w : List ℕ) (a : Advanced) : Ty
   -- the listing is where the call brought it
   pub progress : r .progress ≡ a .progress
   -- what the call did not take is left
+  pub within : a .taken ≤ length w
   pub left : window b r ≡ drop (a .taken) w
   -- more is wanted exactly where the call took nothing and wrote nothing
   pub hungry : r .hungry ≡ (eqb (a .taken) 0 && eqb (length (a .text)) 0)

@@ -5,6 +5,7 @@ ghost use lib.ListN.{length, take, drop};
 ghost use mathlib.Core.Bool.{true};
 ghost use mathlib.Core.Path.{_≡_};
 ghost use Rattle.bollardine.specs.Shell.{Good, stopped, FailedOr, Filled, Turned};
+ghost use Rattle.bollardine.specs.Reached.{Reached};
 use quantities::Progress;
 
 // A listing while the program runs: its progress, the part of the buffer that holds what was read
@@ -124,11 +125,9 @@ fn heading(out: &mut [u8]) -> bool {
 }
 
 // The listing of what the descriptor holds.
-fn list(fd: i32, buf: &mut [u8], out: &mut [u8]) {
-    if !heading(out) {
-        os::fail(b"bollardine: cannot write");
-        return;
-    }
+fn list(fd: i32, buf: &mut [u8], out: &mut [u8]) -> Shell
+    ensures { λ r. ⌜ Reached r ⌝ }
+{
     let p = listing::begin();
     let mut s = Shell {
         progress: p,
@@ -138,12 +137,17 @@ fn list(fd: i32, buf: &mut [u8], out: &mut [u8]) {
         hungry: true,
         going: true,
     };
+    if !heading(out) {
+        os::fail(b"bollardine: cannot write");
+        return ended(s);
+    }
     // the number of turns bounds the loop for the proof, and is never reached
     let mut n: u64 = 0;
     while n < u64::MAX && s.going {
         s = turn(fd, buf, out, s);
         n += 1;
     }
+    s
 }
 
 // The file that the argument names; `-` is standard input.

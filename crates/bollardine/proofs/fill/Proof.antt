@@ -84,7 +84,7 @@ returns-4 c =
     let front = take-put kept room b lent (omega (arith, h .ensures .1, t .pre .0 .ordered, t .pre .0 .within)) ∙ h .ensures .0 in
     let within : kept + n ≤ length (t .args .buf .now) = search needs in
     let fits : kept + n ≤ length (putMid kept room b lent) = omega (arith, within, same-length-2 c) in
-    (search needs, made (read-filled (t .args .buf .now) (putMid kept room b lent) s n (not-false _ (c .before .before .before .before .before .before .before .before .before .before .before .before .before .before .before .if1 .left)) (c .before .before .before .before .before .before .before .before .before .before .before .before .before .before .if2 .left) front fits))
+    (search needs, made (read-filled (t .args .buf .now) (putMid kept room b lent) s n (not-false _ (c .before .before .before .before .before .before .before .before .before .before .before .before .before .before .before .if1 .left)) (c .before .before .before .before .before .before .before .before .before .before .before .before .before .before .if2 .left) front fits (λ i. omega (arith, c .before .before .before .before .before .slice-known3 .given i))))
 
 pub fill-spec : {M : Type 1} → statement M
 fill-spec =

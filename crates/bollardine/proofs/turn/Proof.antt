@@ -80,7 +80,7 @@ good c still going =
 turned : (c : tie.After-advance) (still going : Bool) → still ≡ (eqb (c .advance .result .taken) 0 && eqb (c .advance .result .written) 0) → Turned (c .before .before .before .before .before .before .before .before .before .before .before .before .before .args .buf .now) (c .before .before .before .before .before .before .before .before .before .fill .last .1 .0) (length (c .before .before .before .before .before .before .before .before .before .before .before .before .before .args .out .now)) (c .before .before .before .before .before .before .before .before .before .before .before .before .before .args .s) (after c still going)
 turned c still going e =
     let f = c .before .before .before .before .before .before .before .before .before .fill in
-    call-turned _ _ _ _ (f .result) (goes-on (f .ensures .1) (not-false _ (c .before .before .before .before .before .if1 .left))) (c .advance .result) (c .advance .ensures .0) still going e
+    call-turned _ _ _ _ (f .result) (goes-on (f .ensures .1) (not-false _ (c .before .before .before .before .before .if1 .left))) (c .advance .result) (c .advance .ensures .0) (c .advance .ensures .1 .1 .0) still going e
 
 -- whether the call took and wrote nothing
 still : (c : tie.Joined2) → c .if2 .still ≡ (eqb (c .before .before .before .before .advance .result .taken) 0 && eqb (c .before .before .before .before .advance .result .written) 0)
