@@ -8,36 +8,27 @@ use lib.Dec.{eqb}
 use lib.ListN.{length, take, drop, length-drop}
 use lib.Seq.{take-nil, take-add, drop-drop, length-take-le}
 use Rattle.quantities.specs.declared.Turn.{Turn}
-use Rattle.windows.specs.Advance.{Progress, GivenProgress, advance}
+use Rattle.windows.specs.Advance.{Progress, advance}
 use Rattle.windows.specs.Feeding.{Bytes, take-bytes, drop-bytes}
-use Rattle.windows.specs.Progresses.{progress-by}
 use Rattle.listing.specs.Way.{turnOf}
 use Rattle.bollardine.specs.declared.Shell.{Shell}
 use Rattle.bollardine.specs.Shell.{Good, stopped, FailedOr, failed, made, window, wants, Came, Filled, Brought, Turned}
 
-true-false : true ≡ false → ⊥
+pub true-false : true ≡ false → ⊥
 true-false e = let z : _≡_ {A = ℕ} 0 1 = cc in omega arith
 
 pub good-stopped : {n : ℕ} {s r : Shell} → Good n s → r ≡ stopped s → Good n r
-good-stopped {n} {s} g e = subst (Good n) (sym e) (record { ordered = g .ordered; within = g .within; given = g .given })
+good-stopped {n} {s} g e = subst (Good n) (sym e) (record { ordered = g .ordered; within = g .within; roomy = g .roomy; given = g .given; undone = λ on. absurd (true-false (sym on)) })
 
 -- a program that goes on has not failed to read
-pub goes-on : {s r : Shell} {P : Type 0} → FailedOr s r P → r .going ≡ true → P
-goes-on (failed e) on = absurd (true-false (sym on ∙ ap (λ (x : Shell). x .going) e))
-goes-on (made p) on = p
+pub has-read : {s r : Shell} {P : Type 0} → FailedOr s r P → r .going ≡ true → P
+has-read (failed e) on = absurd (true-false (sym on ∙ ap (λ (x : Shell). x .going) e))
+has-read (made p) on = p
 
 -- one that goes on no more after it should have read has failed to
-pub goes-no-more : {s r : Shell} {b b′ : List ℕ} {P : Type 0} → FailedOr s r (Filled b b′ s r) → r .going ≡ false → FailedOr s r P
-goes-no-more (failed e) off = failed e
-goes-no-more (made p) off = absurd (true-false (sym (p .going) ∙ off))
-
--- after a call of the listing
-pub good-after : {n : ℕ} {s : Shell} → Good n s → (t : Turn) (last : Bool) (room : ℕ) (w : List ℕ) → t ≡ turnOf (advance last room (s .progress) w) → t .taken ≤ s .end - s .start → (hungry going : Bool) → Good n (record { progress = t .progress; start = s .start + t .taken; end = s .end; last = s .last; hungry = hungry; going = going })
-good-after {n} {s} g t last room w e h hungry going = record {
-  ordered = omega (arith, g .ordered);
-  within = g .within;
-  given = subst GivenProgress (sym (ap (λ (x : Turn). x .progress) e)) (progress-by (g .given) last room w);
-}
+pub has-failed : {s r : Shell} {b b′ : List ℕ} {P : Type 0} → FailedOr s r (Filled b b′ s r) → r .going ≡ false → FailedOr s r P
+has-failed (failed e) off = failed e
+has-failed (made p) off = absurd (true-false (sym (p .going) ∙ off))
 
 -- ---- reading on
 -- nothing was read, for nothing was wanted
@@ -68,16 +59,16 @@ last-wants s e = by (s .hungry)
     by true = rw e
     by false = refl
 
--- n bytes were read behind the window, which had been moved to the start of the buffer
-pub read-filled : (b b′ : List ℕ) (s : Shell) (n : ℕ) → s .hungry ≡ true → s .last ≡ false → take (s .end - s .start) b′ ≡ window b s → s .end - s .start + n ≤ length b′ → Bytes b′ → Filled b b′ s (record { progress = s .progress; start = 0; end = s .end - s .start + n; last = eqb n 0; hungry = false; going = true })
-read-filled b b′ s n hungry more moved fits bytes = record {
+-- the window was moved to the start of the buffer, which then was m, and n bytes were read behind it
+pub read-filled : (b m b′ : List ℕ) (s : Shell) (n : ℕ) → s .hungry ≡ true → s .last ≡ false → take (s .end - s .start) m ≡ window b s → take (s .end - s .start) b′ ≡ take (s .end - s .start) m → s .end - s .start + n ≤ length b′ → Bytes b′ → Filled b b′ s (record { progress = s .progress; start = 0; end = s .end - s .start + n; last = eqb n 0; hungry = false; going = true })
+read-filled b m b′ s n hungry more moved stayed fits bytes = record {
   got = take n (drop kept b′);
   came = record {
     bytes = take-bytes n (drop kept b′) (drop-bytes kept b′ bytes);
     unwanted = λ none. absurd (wanted none);
     ends = rw (hungry, more) (ap (λ (k : ℕ). eqb k 0) (sym (length-take-le n (drop kept b′) (omega (arith, length-drop kept b′)))));
   };
-  behind = ap (λ (k : ℕ). take k b′) {x = kept + n - 0} {y = kept + n} (omega arith) ∙ take-add kept n b′ ∙ ap (λ (w : List ℕ). w ++ take n (drop kept b′)) moved;
+  behind = ap (λ (k : ℕ). take k b′) {x = kept + n - 0} {y = kept + n} (omega arith) ∙ take-add kept n b′ ∙ ap (λ (w : List ℕ). w ++ take n (drop kept b′)) (stayed ∙ moved);
   same = refl;
   going = refl;
 }

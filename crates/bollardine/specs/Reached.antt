@@ -12,7 +12,7 @@ use Rattle.windows.specs.Advance.{Progress, begun, Advanced, advance}
 use Rattle.windows.specs.Feeding.{Bytes, Feed, turn, written, leaves, comes-to, Honest, any-windows}
 use Rattle.bollardine.specs.declared.Shell.{Shell}
 use Rattle.bollardine.specs.Shell.{stopped, FailedOr, failed, made, window, wants, Turned}
-use Rattle.bollardine.specs.Kept.{last-wants}
+use Rattle.bollardine.specs.Kept.{true-false, last-wants}
 
 -- where the listing has come to
 pub record Reached (s : Shell) : Type 0 where
@@ -39,9 +39,6 @@ Inside p s (f ∷ fs) = (f .size ≤ length s) × (turn p s f .taken ≤ f .size
 unfoldable pub Open : List Feed → Type 0
 Open [] = Unit
 Open (f ∷ fs) = (f .last ≡ false) × Open fs
-
-true-false : true ≡ false → ⊥
-true-false e = let z : _≡_ {A = ℕ} 0 1 = cc in omega arith
 
 open-honest : (fs : List Feed) (p : Progress) (s : List ℕ) → Open fs → Honest p s fs
 unfolding Open Honest

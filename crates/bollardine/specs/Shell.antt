@@ -2,18 +2,38 @@
 use mathlib.Core.Path.{_≡_}
 use mathlib.Core.Bool.{Bool, true, false, not, _&&_, _||_}
 use mathlib.Core.List.{List, [], _++_}
-use Prim.Native.Nat.{ℕ, _-_, _≤_}
+use Prim.Native.Nat.{ℕ, _-_, _≤_, _<_}
 use lib.Dec.{eqb}
 use lib.ListN.{length, take, drop}
-use Rattle.windows.specs.Advance.{GivenProgress, Advanced, advance}
+use Rattle.windows.specs.Advance.{longest, widest, farthest, GivenProgress, Advanced, advance}
 use Rattle.windows.specs.Feeding.{Bytes}
 use Rattle.bollardine.specs.declared.Shell.{Shell}
 
--- the window lies within a buffer of n bytes, and the listing is one that calls gave
+-- more of the input is wanted, and it has not ended
+abbrev pub wants : Shell → Bool
+wants s = s .hungry && not (s .last)
+
+-- what the program keeps to, with a buffer of n bytes
 pub record Good (n : ℕ) (s : Shell) : Type 0 where
+  -- the window lies within the buffer
   pub ordered : s .start ≤ s .end
   pub within : s .end ≤ n
+  -- a read has room for a byte, so that it brings none only where the input has ended; but for a listing that is past the last
+  -- byte that has a number, which takes no more
+  pub roomy : wants s ≡ true → s .progress .place ≤ farthest → s .end - s .start < n
+  -- the listing is one that calls gave, and not done while the program goes on
   pub given : GivenProgress (s .progress)
+  pub undone : s .going ≡ true → s .progress .done ≡ false
+
+-- n bytes hold the longest record, and m the longest line
+abbrev pub Enough : ℕ → ℕ → Type 0
+Enough n m = (widest ≤ n) × (longest ≤ m)
+
+-- the program can take a turn, with so many bytes to read into and to write from
+pub record Ready (n m : ℕ) (s : Shell) : Type 0 where
+  pub good : Good n s
+  pub going : s .going ≡ true
+  pub enough : Enough n m
 
 -- the program goes on no more
 abbrev pub stopped : Shell → Shell
@@ -27,10 +47,6 @@ pub data FailedOr (s r : Shell) (P : Type 0) : Type 0 where
 -- what was read and not yet taken, of the buffer b
 abbrev pub window : List ℕ → Shell → List ℕ
 window b s = take (s .end - s .start) (drop (s .start) b)
-
--- more of the input is wanted, and it has not ended
-abbrev pub wants : Shell → Bool
-wants s = s .hungry && not (s .last)
 
 -- the bytes `got` came behind what s had, and `last` is whether the input has ended behind them
 pub record Came (s : Shell) (got : List ℕ) (last : Bool) : Type 0 where

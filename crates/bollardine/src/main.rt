@@ -4,7 +4,7 @@ ghost use Prim.Native.Nat.{_-_, _≤_};
 ghost use lib.ListN.{length, take, drop};
 ghost use mathlib.Core.Bool.{true};
 ghost use mathlib.Core.Path.{_≡_};
-ghost use Rattle.bollardine.specs.Shell.{Good, stopped, FailedOr, Filled, Turned};
+ghost use Rattle.bollardine.specs.Shell.{Good, Enough, Ready, stopped, FailedOr, Filled, Turned};
 ghost use Rattle.bollardine.specs.Reached.{Reached};
 use quantities::Progress;
 
@@ -77,8 +77,7 @@ fn fill(fd: i32, buf: &mut [u8], s: Shell) -> Shell
 
 // One call of the listing, and what it wrote.
 fn turn(fd: i32, buf: &mut [u8], out: &mut [u8], s: Shell) -> Shell
-    requires { ⌜ Good (length (now buf)) s ⌝ }
-    requires { ⌜ s .going ≡ true ⌝ }
+    requires { ⌜ Ready (length (now buf)) (length (now out)) s ⌝ }
     ensures { λ r. ⌜ Good (length (now (buf .entry))) r ⌝ }
     ensures { λ r. ⌜ FailedOr s r (Turned (now (buf .entry)) (now (buf .exit)) (length (now (out .entry))) s r) ⌝ }
 {
@@ -94,7 +93,6 @@ fn turn(fd: i32, buf: &mut [u8], out: &mut [u8], s: Shell) -> Shell
     let written = t.written;
     let q = t.progress;
     let still = taken == 0 && written == 0;
-    let done = q.done;
     let next = start + taken;
     let z = Shell {
         progress: q,
@@ -102,13 +100,13 @@ fn turn(fd: i32, buf: &mut [u8], out: &mut [u8], s: Shell) -> Shell
         end: end,
         last: f.last,
         hungry: still,
-        going: !done,
+        going: !q.done,
     };
     if !io::write_all(1, &out[0..written]) {
         os::fail(b"bollardine: cannot write");
         return ended(z);
     }
-    if still && f.last && !done {
+    if still && f.last && z.going {
         io::write_all(
             2,
             b"bollardine: the input is too long for its bytes to be numbered\n",
@@ -126,6 +124,7 @@ fn heading(out: &mut [u8]) -> bool {
 
 // The listing of what the descriptor holds.
 fn list(fd: i32, buf: &mut [u8], out: &mut [u8]) -> Shell
+    requires { ⌜ Enough (length (now buf)) (length (now out)) ⌝ }
     ensures { λ r. ⌜ Reached r ⌝ }
 {
     let p = listing::begin();
@@ -151,7 +150,9 @@ fn list(fd: i32, buf: &mut [u8], out: &mut [u8]) -> Shell
 }
 
 // The file that the argument names; `-` is standard input.
-fn named(buf: &mut [u8], out: &mut [u8]) {
+fn named(buf: &mut [u8], out: &mut [u8])
+    requires { ⌜ Enough (length (now buf)) (length (now out)) ⌝ }
+{
     let mut path = io::buffer();
     let n = os::arg(1, &mut path);
     if os::errno() != 0 {
@@ -171,7 +172,9 @@ fn named(buf: &mut [u8], out: &mut [u8]) {
     libc::close(fd);
 }
 
-fn serve(buf: &mut [u8], out: &mut [u8]) {
+fn serve(buf: &mut [u8], out: &mut [u8])
+    requires { ⌜ Enough (length (now buf)) (length (now out)) ⌝ }
+{
     let n = os::arg_count();
     if n < 2 {
         list(0, buf, out);

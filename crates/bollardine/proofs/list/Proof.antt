@@ -2,7 +2,7 @@ use mathlib.Core.Path.{_≡_, refl, sym, ap, _∙_, subst}
 use Prim.Native.Nat.{ℕ, _-_, _≤_}
 use native.Mathlib.Omega.{arith}
 use lib.ListN.{length}
-use Rattle.windows.specs.Advance.{GivenProgress}
+use Rattle.windows.specs.Advance.{Progress, GivenProgress}
 use Rattle.windows.specs.Progresses.{given-begun}
 use Rattle.bollardine.specs.declared.Shell.{Shell}
 use Rattle.bollardine.specs.Shell.{Good}
@@ -41,10 +41,28 @@ returns c = reached-begun (c .ended .result) (ap (λ (x : Shell). x .progress) (
 loop-holds : tie.Need-loop-holds Inv-loop μ-loop
 loop-holds c =
     let e = c .before .before .before .before .before .begin .ensures in
-    (refl, refl, record { ordered = omega arith; within = omega arith; given = subst GivenProgress (sym e) given-begun }, fed-begun _ _ e refl)
+    let p = c .before .before .before .before .before .before .before .before .pre in (
+      refl,
+      refl,
+      record {
+        ordered = omega arith;
+        within = omega arith;
+        roomy = λ _ _. omega (arith, p .0);
+        given = subst GivenProgress (sym e) given-begun;
+        undone = λ _. ap (λ (q : Progress). q .done) e;
+      },
+      fed-begun _ _ e refl,
+    )
 
 turn-requires : tie.Need-turn-requires Inv-loop μ-loop
-turn-requires c κs = (c .before .before .before .before .loop .inv .2, c .before .before .if2 .taken)
+turn-requires c κs =
+    let l = c .before .before .before .before in
+    let p = l .before .before .before .before .before .before .before .before .before .pre in
+    record {
+      good = l .loop .inv .2;
+      going = c .before .before .if2 .taken;
+      enough = (omega (arith, l .loop .inv .0, p .0), omega (arith, l .loop .inv .1, l .before .before .before .before .heading .kept .0, p .1));
+    }
 
 add-n : tie.Need-add-n Inv-loop μ-loop
 add-n c = record { fits = omega (arith, c .before .before .before .before .before .before .before .before .loop-test .taken) }
