@@ -1,6 +1,6 @@
 -- What is kept while the program reads and calls the listing.
 use mathlib.Core.Path.{_≡_, refl, sym, ap, _∙_, subst}
-use mathlib.Core.Bool.{Bool, true, false, not, _&&_, _||_}
+use mathlib.Core.Bool.{Bool, true, false, not, _&&_, _||_, true≢false, false≢true}
 use mathlib.Core.List.{List, [], _∷_, _++_, append-nil}
 use Prim.Native.Nat.{ℕ, zero, suc, _+_, _-_, _≤_}
 use native.Mathlib.Omega.{arith}
@@ -12,23 +12,20 @@ use Rattle.windows.specs.Advance.{Progress, advance}
 use Rattle.windows.specs.Feeding.{Bytes, take-bytes, drop-bytes}
 use Rattle.listing.specs.Way.{turnOf}
 use Rattle.bollardine.specs.declared.Shell.{Shell}
-use Rattle.bollardine.specs.Shell.{Good, stopped, FailedOr, failed, made, window, wants, Came, Filled, Brought, Turned}
-
-pub true-false : true ≡ false → ⊥
-true-false e = let z : _≡_ {A = ℕ} 0 1 = cc in omega arith
+use Rattle.bollardine.specs.Shell.{Good, stopped, FailedOr, failed, made, window, wants, Filled, Brought, Turned}
 
 pub good-stopped : {n : ℕ} {s r : Shell} → Good n s → r ≡ stopped s → Good n r
-good-stopped {n} {s} g e = subst (Good n) (sym e) (record { ordered = g .ordered; within = g .within; roomy = g .roomy; given = g .given; undone = λ on. absurd (true-false (sym on)) })
+good-stopped {n} {s} g e = subst (Good n) (sym e) (record { ordered = g .ordered; within = g .within; roomy = g .roomy; given = g .given; undone = λ on. absurd (false≢true on) })
 
 -- a program that goes on has not failed to read
 pub has-read : {s r : Shell} {P : Type 0} → FailedOr s r P → r .going ≡ true → P
-has-read (failed e) on = absurd (true-false (sym on ∙ ap (λ (x : Shell). x .going) e))
+has-read (failed e) on = absurd (true≢false (sym on ∙ ap (λ (x : Shell). x .going) e))
 has-read (made p) on = p
 
 -- one that goes on no more after it should have read has failed to
 pub has-failed : {s r : Shell} {b b′ : List ℕ} {P : Type 0} → FailedOr s r (Filled b b′ s r) → r .going ≡ false → FailedOr s r P
 has-failed (failed e) off = failed e
-has-failed (made p) off = absurd (true-false (sym (p .going) ∙ off))
+has-failed (made p) off = absurd (true≢false (sym (p .going) ∙ off))
 
 -- ---- reading on
 -- nothing was read, for nothing was wanted
@@ -49,7 +46,7 @@ pub full-wants : (s : Shell) → not (s .hungry) ≡ true → wants s ≡ false
 full-wants s e = by (s .hungry) e
   where
     by : (h : Bool) → not h ≡ true → (h && not (s .last)) ≡ false
-    by true f = absurd (true-false (sym f))
+    by true f = absurd (false≢true f)
     by false f = refl
 
 pub last-wants : (s : Shell) → s .last ≡ true → wants s ≡ false
@@ -77,7 +74,7 @@ read-filled b m b′ s n hungry more moved stayed fits bytes = record {
     kept = s .end - s .start
 
     wanted : wants s ≡ false → ⊥
-    wanted none = true-false (rw (hungry, more) at none)
+    wanted none = true≢false (rw (hungry, more) at none)
 
 -- ---- one call
 drop-take : (k n : ℕ) (l : List ℕ) → drop k (take n l) ≡ take (n - k) (drop k l)

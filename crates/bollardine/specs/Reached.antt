@@ -1,18 +1,18 @@
 -- Where the program's turns bring the listing: it is fed all that was read, in order and nothing twice.
 use mathlib.Core.Path.{_≡_, refl, sym, ap, _∙_, subst}
-use mathlib.Core.Bool.{Bool, true, false, _&&_, _||_}
+use mathlib.Core.Bool.{Bool, true, false, _&&_, _||_, true≢false, false≢true}
 use mathlib.Core.List.{List, [], _∷_, _++_, append-nil}
 use Prim.Native.Nat.{ℕ, zero, suc, _≤_}
 use native.Mathlib.Omega.{arith}
 use lib.Dec.{eqb}
-use lib.ListN.{length, take, drop, length-append}
+use lib.ListN.{length, drop, length-append}
 use lib.Seq.{take-append-le, drop-append-le, take-length}
 use Rattle.rules.specs.Listing.{heading, listing}
 use Rattle.windows.specs.Advance.{Progress, begun, Advanced, advance}
 use Rattle.windows.specs.Feeding.{Bytes, Feed, turn, written, leaves, comes-to, Honest, any-windows}
 use Rattle.bollardine.specs.declared.Shell.{Shell}
 use Rattle.bollardine.specs.Shell.{stopped, FailedOr, failed, made, window, wants, Turned}
-use Rattle.bollardine.specs.Kept.{true-false, last-wants}
+use Rattle.bollardine.specs.Kept.{last-wants}
 
 -- where the listing has come to
 pub record Reached (s : Shell) : Type 0 where
@@ -43,7 +43,7 @@ Open (f ∷ fs) = (f .last ≡ false) × Open fs
 open-honest : (fs : List Feed) (p : Progress) (s : List ℕ) → Open fs → Honest p s fs
 unfolding Open Honest
 open-honest [] p s o = tt
-open-honest (f ∷ fs) p s o = (λ l. absurd (true-false (sym l ∙ o .0)), open-honest fs (turn p s f .progress) (drop (turn p s f .taken) s) (o .1))
+open-honest (f ∷ fs) p s o = (λ l. absurd (true≢false (sym l ∙ o .0)), open-honest fs (turn p s f .progress) (drop (turn p s f .taken) s) (o .1))
 
 -- ---- the same calls where more of the input has come
 pub record Grown (p : Progress) (s more : List ℕ) (fs : List Feed) : Type 0 where
@@ -119,7 +119,7 @@ pub fed-stopped : {b b′ : List ℕ} {s r : Shell} → Fed b s → r ≡ stoppe
 fed-stopped {b} {b′} {s} x e = subst (Fed b′) (sym e) (record {
   reached = record { input = x .reached .input; bytes = x .reached .bytes; feeds = x .reached .feeds; honest = x .reached .honest; progress = x .reached .progress };
   inside = x .inside;
-  left = λ on. absurd (true-false (sym on));
+  left = λ on. absurd (false≢true on);
   open-so-far = x .open-so-far;
 })
 

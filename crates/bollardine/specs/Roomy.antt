@@ -1,13 +1,13 @@
 -- A call that takes nothing and writes nothing was not handed a full buffer, so that a read after it has room.
 use mathlib.Core.Path.{_≡_, refl, sym, ap, _∙_, subst}
-use mathlib.Core.Bool.{Bool, true, false, not, _&&_}
-use mathlib.Core.List.{List, _++_}
+use mathlib.Core.Bool.{Bool, true, false, not, _&&_, false≢true}
+use mathlib.Core.List.{List}
 use Prim.Native.Nat.{ℕ, _+_, _-_, _≤_, _<_}
 use native.Mathlib.Decide.{decLt}
 use native.Mathlib.Omega.{arith}
 use borrow.Author.Tests.{eqb-true, not-true}
 use lib.Dec.{eqb}
-use lib.ListN.{length, take, drop, length-drop, length-append}
+use lib.ListN.{length, drop, length-drop, length-append}
 use lib.Seq.{length-take-le}
 use Rattle.quantities.specs.declared.Turn.{Turn}
 use Rattle.windows.specs.Advance.{Progress, GivenProgress, longest, widest, farthest, Move, stays, moves, move, Advanced, advance}
@@ -16,8 +16,7 @@ use Rattle.windows.specs.Goes.{Less, move-less, advance-moves, advance-stays, g
 use Rattle.windows.specs.Progresses.{progress-by}
 use Rattle.listing.specs.Way.{turnOf}
 use Rattle.bollardine.specs.declared.Shell.{Shell}
-use Rattle.bollardine.specs.Shell.{Good, window, wants}
-use Rattle.bollardine.specs.Kept.{true-false}
+use Rattle.bollardine.specs.Shell.{Good, window}
 
 -- such a call leaves the listing where it was
 unmoved : (last : Bool) (room : ℕ) (p : Progress) (w : List ℕ) → advance last room p w .taken ≡ 0 → length (advance last room p w .text) ≡ 0 → advance last room p w .progress ≡ p
@@ -44,7 +43,7 @@ narrow last room p w bytes undone roomy more h k near = by (decLt (length w) wid
 
 both : (a b : Bool) → (a && b) ≡ true → (a ≡ true) × (b ≡ true)
 both true b e = (refl, e)
-both false b e = absurd (true-false (sym e))
+both false b e = absurd (false≢true e)
 
 -- what is kept after a call that is handed the window of f
 pub good-after : {n : ℕ} (b : List ℕ) (f : Shell) (room : ℕ) → Good n f → f .going ≡ true → length b ≡ n → Bytes b → widest ≤ n → longest ≤ room → (t : Turn) → t ≡ turnOf (advance (f .last) room (f .progress) (window b f)) → t .taken ≤ length (window b f) → (still going : Bool) → still ≡ (eqb (t .taken) 0 && eqb (t .written) 0) → (going ≡ true → t .progress .done ≡ false) → Good n (record { progress = t .progress; start = f .start + t .taken; end = f .end; last = f .last; hungry = still; going = going })

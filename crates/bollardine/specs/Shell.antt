@@ -13,7 +13,7 @@ use Rattle.bollardine.specs.declared.Shell.{Shell}
 abbrev pub wants : Shell → Bool
 wants s = s .hungry && not (s .last)
 
--- what the program keeps to, with a buffer of n bytes
+-- where s may stand between turns, with a buffer of n bytes
 pub record Good (n : ℕ) (s : Shell) : Type 0 where
   -- the window lies within the buffer
   pub ordered : s .start ≤ s .end

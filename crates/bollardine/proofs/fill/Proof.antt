@@ -1,4 +1,4 @@
-use mathlib.Core.Path.{sym}
+use mathlib.Core.Bool.{false≢true}
 use Prim.Native.Nat.{_+_, _-_, _≤_}
 use native.Mathlib.Omega.{arith}
 use lib.ListN.{length}
@@ -6,7 +6,7 @@ use borrow.Author.Needs.{needs}
 use borrow.Author.Tests.{not-false}
 use borrow.Rule.Slice.PartMut.{putMid, take-put}
 use Rattle.bollardine.specs.Shell.{failed, made}
-use Rattle.bollardine.specs.Kept.{true-false, good-stopped, stays-filled, full-wants, last-wants, read-filled}
+use Rattle.bollardine.specs.Kept.{good-stopped, stays-filled, full-wants, last-wants, read-filled}
 use Rattle.bollardine.proofs.fill.Statement.{statement}
 use Rattle.bollardine.proofs.fill.Tie as tie
 
@@ -84,7 +84,18 @@ returns-4 c =
     let front : kept ≤ length b = omega (arith, h .ensures .1, t .pre .0 .ordered, t .pre .0 .within) in
     let within : kept + n ≤ length (t .args .buf .now) = search needs in
     let fits : kept + n ≤ length (putMid kept room b lent) = omega (arith, within, same-length-2 c) in
-    (record { ordered = omega arith; within = within; roomy = λ none near. absurd (true-false (sym none)); given = t .pre .0 .given; undone = λ _. t .pre .0 .undone (t .pre .1) }, made (read-filled (t .args .buf .now) b (putMid kept room b lent) s n (not-false _ (c .before .before .before .before .before .before .before .before .before .before .before .before .before .before .before .if1 .left)) (c .before .before .before .before .before .before .before .before .before .before .before .before .before .before .if2 .left) (h .ensures .0) (take-put kept room b lent front) fits (λ i. omega (arith, c .before .before .before .before .before .slice-known3 .given i))))
+    let hungry = not-false (s .hungry) (c .before .before .before .before .before .before .before .before .before .before .before .before .before .before .before .if1 .left) in
+    let more = c .before .before .before .before .before .before .before .before .before .before .before .before .before .before .if2 .left in
+    let bytes = c .before .before .before .before .before .slice-known3 .given in (
+      record {
+        ordered = omega arith;
+        within = within;
+        roomy = λ none near. absurd (false≢true none);
+        given = t .pre .0 .given;
+        undone = λ _. t .pre .0 .undone (t .pre .1);
+      },
+      made (read-filled (t .args .buf .now) b (putMid kept room b lent) s n hungry more (h .ensures .0) (take-put kept room b lent front) fits (λ i. omega (arith, bytes i))),
+    )
 
 pub fill-spec : {M : Type 1} → statement M
 fill-spec =

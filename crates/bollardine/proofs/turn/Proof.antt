@@ -1,17 +1,15 @@
 use borrow.Author.Needs.{needs}
 use borrow.Author.Tests.{not-true, not-false, eq-eqb, ne-eqb}
-use mathlib.Core.Path.{_≡_, sym, _∙_}
-use mathlib.Core.Bool.{Bool, true, false, _&&_}
+use mathlib.Core.Path.{_≡_, _∙_}
+use mathlib.Core.Bool.{Bool, true, false, _&&_, false≢true}
 use mathlib.Core.Logic.{⊎-elim}
-use mathlib.Core.List.{List}
-use Prim.Native.Nat.{ℕ, _+_, _-_, _≤_}
-use native.Mathlib.Nat.{min-le-left, le-trans}
+use Prim.Native.Nat.{_+_}
 use native.Mathlib.Omega.{arith}
 use lib.Dec.{eqb}
-use lib.ListN.{length, take, length-take}
+use lib.ListN.{length}
 use Rattle.bollardine.specs.declared.Shell.{Shell}
 use Rattle.bollardine.specs.Shell.{Good, made, Turned}
-use Rattle.bollardine.specs.Kept.{true-false, good-stopped, has-read, has-failed, call-turned, turned-stopped}
+use Rattle.bollardine.specs.Kept.{good-stopped, has-read, has-failed, call-turned, turned-stopped}
 use Rattle.bollardine.specs.Roomy.{good-after}
 use Rattle.bollardine.proofs.turn.Statement.{statement}
 use Rattle.bollardine.proofs.turn.Tie as tie
@@ -96,7 +94,7 @@ same-length-3 c = search needs
 returns-2 : tie.Need-returns-2
 returns-2 c =
     let j = c .before .before .before .before .before .before .before .before in
-    (good-stopped (good j false (λ on. absurd (true-false (sym on)))) (c .ended .ensures), made (turned-stopped (turned (j .before .before .before .before) _ false (still j)) (c .ended .ensures)))
+    (good-stopped (good j false (λ on. absurd (false≢true on))) (c .ended .ensures), made (turned-stopped (turned (j .before .before .before .before) _ false (still j)) (c .ended .ensures)))
 
 slice-aggregate-write-all : tie.Need-slice-aggregate-write-all
 slice-aggregate-write-all c = search needs
@@ -116,7 +114,7 @@ same-length-5 c = search needs
 returns-3 : tie.Need-returns-3
 returns-3 c =
     let j = c .before .before .before .before .before .before .before .before .before .before .before in
-    (good-stopped (good j false (λ on. absurd (true-false (sym on)))) (c .ended2 .ensures), made (turned-stopped (turned (j .before .before .before .before) _ false (still j)) (c .ended2 .ensures)))
+    (good-stopped (good j false (λ on. absurd (false≢true on))) (c .ended2 .ensures), made (turned-stopped (turned (j .before .before .before .before) _ false (still j)) (c .ended2 .ensures)))
 
 same-length-6 : tie.Need-same-length-6
 same-length-6 c = search needs
