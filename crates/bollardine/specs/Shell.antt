@@ -1,32 +1,86 @@
 -- What the program keeps to while it reads and writes.
-use mathlib.Core.Path.{_≡_, sym, ap, subst}
-use mathlib.Core.Bool.{Bool, false}
-use mathlib.Core.List.{List}
-use Prim.Native.Nat.{ℕ, _+_, _-_, _≤_}
-use native.Mathlib.Omega.{arith}
-use Rattle.quantities.specs.declared.Turn.{Turn}
-use Rattle.windows.specs.Advance.{GivenProgress, advance}
-use Rattle.windows.specs.Progresses.{progress-by}
-use Rattle.listing.specs.Way.{turnOf}
+use mathlib.Core.Path.{_≡_}
+use mathlib.Core.Bool.{Bool, true, false, not, _&&_, _||_}
+use mathlib.Core.List.{List, [], _++_}
+use Prim.Native.Nat.{ℕ, _-_, _≤_, _<_}
+use lib.Dec.{eqb}
+use lib.ListN.{length, take, drop}
+use Rattle.windows.specs.Advance.{longest, widest, farthest, GivenProgress, Advanced, advance}
+use Rattle.windows.specs.Feeding.{Bytes}
 use Rattle.bollardine.specs.declared.Shell.{Shell}
 
--- the window lies within a buffer of n bytes, and the listing is one that calls gave
+-- more of the input is wanted, and it has not ended
+abbrev pub wants : Shell → Bool
+wants s = s .hungry && not (s .last)
+
+-- where s may stand between turns, with a buffer of n bytes
 pub record Good (n : ℕ) (s : Shell) : Type 0 where
+  -- the window lies within the buffer
   pub ordered : s .start ≤ s .end
   pub within : s .end ≤ n
+  -- a read has room for a byte, so that it brings none only where the input has ended; but for a listing that is past the last
+  -- byte that has a number, which takes no more
+  pub roomy : wants s ≡ true → s .progress .place ≤ farthest → s .end - s .start < n
+  -- the listing is one that calls gave, and not done while the program goes on
   pub given : GivenProgress (s .progress)
+  pub undone : s .going ≡ true → s .progress .done ≡ false
+
+-- n bytes hold the longest record, and m the longest line
+abbrev pub Enough : ℕ → ℕ → Type 0
+Enough n m = (widest ≤ n) × (longest ≤ m)
+
+-- the program can take a turn, with so many bytes to read into and to write from
+pub record Ready (n m : ℕ) (s : Shell) : Type 0 where
+  pub good : Good n s
+  pub going : s .going ≡ true
+  pub enough : Enough n m
 
 -- the program goes on no more
 abbrev pub stopped : Shell → Shell
 stopped s = record { progress = s .progress; start = s .start; end = s .end; last = s .last; hungry = s .hungry; going = false }
 
-pub good-stopped : {n : ℕ} {s r : Shell} → Good n s → r ≡ stopped s → Good n r
-good-stopped {n} {s} g e = subst (Good n) (sym e) (record { ordered = g .ordered; within = g .within; given = g .given })
+-- a read failed, and the program stops where it was; or else P
+pub data FailedOr (s r : Shell) (P : Type 0) : Type 0 where
+  failed : r ≡ stopped s → FailedOr s r P
+  made : P → FailedOr s r P
 
--- after a call of the listing
-pub good-after : {n : ℕ} {s : Shell} → Good n s → (t : Turn) (last : Bool) (room : ℕ) (w : List ℕ) → t ≡ turnOf (advance last room (s .progress) w) → t .taken ≤ s .end - s .start → (hungry going : Bool) → Good n (record { progress = t .progress; start = s .start + t .taken; end = s .end; last = s .last; hungry = hungry; going = going })
-good-after {n} {s} g t last room w e h hungry going = record {
-  ordered = omega (arith, g .ordered);
-  within = g .within;
-  given = subst GivenProgress (sym (ap (λ (x : Turn). x .progress) e)) (progress-by (g .given) last room w);
-}
+-- what was read and not yet taken, of the buffer b
+abbrev pub window : List ℕ → Shell → List ℕ
+window b s = take (s .end - s .start) (drop (s .start) b)
+
+-- the bytes `got` came behind what s had, and `last` is whether the input has ended behind them
+pub record Came (s : Shell) (got : List ℕ) (last : Bool) : Type 0 where
+  pub bytes : Bytes got
+  -- none came where none were wanted
+  pub unwanted : wants s ≡ false → got ≡ []
+  -- the input has ended where it had before, and where a read brought no byte
+  pub ends : last ≡ (s .last || (wants s && eqb (length got) 0))
+
+-- s, with the buffer b, has read on to r, with the buffer b′
+pub record Filled (b b′ : List ℕ) (s r : Shell) : Type 0 where
+  -- the bytes that were read
+  pub got : List ℕ
+  pub came : Came s got (r .last)
+  -- they stand behind what was left, and all of that is still there
+  pub behind : window b′ r ≡ window b s ++ got
+  -- the listing is where it was, and the program goes on
+  pub same : r .progress ≡ s .progress
+  pub going : r .going ≡ true
+
+-- a call that was handed the window w brought a, and r, with the buffer b, is what came of it
+pub record Brought (b : List ℕ) (r : Shell) (w : List ℕ) (a : Advanced) : Type 0 where
+  -- the listing is where the call brought it
+  pub progress : r .progress ≡ a .progress
+  -- what the call did not take is left
+  pub within : a .taken ≤ length w
+  pub left : window b r ≡ drop (a .taken) w
+  -- more is wanted exactly where the call took nothing and wrote nothing
+  pub hungry : r .hungry ≡ (eqb (a .taken) 0 && eqb (length (a .text)) 0)
+
+-- s, with the buffer b, has taken a turn to r, with the buffer b′ and so much room for what is written
+pub record Turned (b b′ : List ℕ) (room : ℕ) (s r : Shell) : Type 0 where
+  -- the bytes that were read
+  pub got : List ℕ
+  pub came : Came s got (r .last)
+  -- the call was handed what was left and those bytes behind it
+  pub brought : Brought b′ r (window b s ++ got) (advance (r .last) room (s .progress) (window b s ++ got))

@@ -1,10 +1,11 @@
 // The program: a trace from standard input, or from the file that is named, and its listing on
 // standard output. It only reads, calls and writes.
 ghost use Prim.Native.Nat.{_-_, _≤_};
-ghost use lib.ListN.{length};
+ghost use lib.ListN.{length, take, drop};
+ghost use mathlib.Core.Bool.{true};
 ghost use mathlib.Core.Path.{_≡_};
-ghost use Rattle.bollardine.specs.Shell.{Good, stopped};
-ghost use Rattle.bollardine.specs.Shift.{Shifted};
+ghost use Rattle.bollardine.specs.Shell.{Good, Enough, Ready, stopped, FailedOr, Filled, Turned};
+ghost use Rattle.bollardine.specs.Reached.{Reached};
 use quantities::Progress;
 
 // A listing while the program runs: its progress, the part of the buffer that holds what was read
@@ -22,7 +23,8 @@ pub struct Shell {
 // Moves the bytes of buf from `from` up to `to` to its start.
 fn shift(buf: &mut [u8], from: usize, to: usize)
     requires { ⌜ (from ≤ to) × (to ≤ length (now buf)) ⌝ }
-    ensures { λ _. ⌜ Shifted (now (buf .entry)) from (to - from) (now (buf .exit)) ⌝ }
+    ensures { λ _. ⌜ take (to - from) (now (buf .exit)) ≡ take (to - from) (drop from (now (buf .entry))) ⌝ }
+    ensures { λ _. ⌜ length (now (buf .exit)) ≡ length (now (buf .entry)) ⌝ }
 {
     let mut i = from;
     let mut o: usize = 0;
@@ -44,7 +46,9 @@ fn ended(s: Shell) -> Shell
 // Reads on behind what is left of the input, where more is wanted.
 fn fill(fd: i32, buf: &mut [u8], s: Shell) -> Shell
     requires { ⌜ Good (length (now buf)) s ⌝ }
+    requires { ⌜ s .going ≡ true ⌝ }
     ensures { λ r. ⌜ Good (length (now (buf .entry))) r ⌝ }
+    ensures { λ r. ⌜ FailedOr s r (Filled (now (buf .entry)) (now (buf .exit)) s r) ⌝ }
 {
     if !s.hungry {
         return s;
@@ -73,8 +77,9 @@ fn fill(fd: i32, buf: &mut [u8], s: Shell) -> Shell
 
 // One call of the listing, and what it wrote.
 fn turn(fd: i32, buf: &mut [u8], out: &mut [u8], s: Shell) -> Shell
-    requires { ⌜ Good (length (now buf)) s ⌝ }
+    requires { ⌜ Ready (length (now buf)) (length (now out)) s ⌝ }
     ensures { λ r. ⌜ Good (length (now (buf .entry))) r ⌝ }
+    ensures { λ r. ⌜ FailedOr s r (Turned (now (buf .entry)) (now (buf .exit)) (length (now (out .entry))) s r) ⌝ }
 {
     let f = fill(fd, buf, s);
     if !f.going {
@@ -88,7 +93,6 @@ fn turn(fd: i32, buf: &mut [u8], out: &mut [u8], s: Shell) -> Shell
     let written = t.written;
     let q = t.progress;
     let still = taken == 0 && written == 0;
-    let done = q.done;
     let next = start + taken;
     let z = Shell {
         progress: q,
@@ -96,13 +100,13 @@ fn turn(fd: i32, buf: &mut [u8], out: &mut [u8], s: Shell) -> Shell
         end: end,
         last: f.last,
         hungry: still,
-        going: !done,
+        going: !q.done,
     };
     if !io::write_all(1, &out[0..written]) {
         os::fail(b"bollardine: cannot write");
         return ended(z);
     }
-    if still && f.last && !done {
+    if still && f.last && z.going {
         io::write_all(
             2,
             b"bollardine: the input is too long for its bytes to be numbered\n",
@@ -119,11 +123,10 @@ fn heading(out: &mut [u8]) -> bool {
 }
 
 // The listing of what the descriptor holds.
-fn list(fd: i32, buf: &mut [u8], out: &mut [u8]) {
-    if !heading(out) {
-        os::fail(b"bollardine: cannot write");
-        return;
-    }
+fn list(fd: i32, buf: &mut [u8], out: &mut [u8]) -> Shell
+    requires { ⌜ Enough (length (now buf)) (length (now out)) ⌝ }
+    ensures { λ r. ⌜ Reached r ⌝ }
+{
     let p = listing::begin();
     let mut s = Shell {
         progress: p,
@@ -133,16 +136,23 @@ fn list(fd: i32, buf: &mut [u8], out: &mut [u8]) {
         hungry: true,
         going: true,
     };
+    if !heading(out) {
+        os::fail(b"bollardine: cannot write");
+        return ended(s);
+    }
     // the number of turns bounds the loop for the proof, and is never reached
     let mut n: u64 = 0;
     while n < u64::MAX && s.going {
         s = turn(fd, buf, out, s);
         n += 1;
     }
+    s
 }
 
 // The file that the argument names; `-` is standard input.
-fn named(buf: &mut [u8], out: &mut [u8]) {
+fn named(buf: &mut [u8], out: &mut [u8])
+    requires { ⌜ Enough (length (now buf)) (length (now out)) ⌝ }
+{
     let mut path = io::buffer();
     let n = os::arg(1, &mut path);
     if os::errno() != 0 {
@@ -162,7 +172,9 @@ fn named(buf: &mut [u8], out: &mut [u8]) {
     libc::close(fd);
 }
 
-fn serve(buf: &mut [u8], out: &mut [u8]) {
+fn serve(buf: &mut [u8], out: &mut [u8])
+    requires { ⌜ Enough (length (now buf)) (length (now out)) ⌝ }
+{
     let n = os::arg_count();
     if n < 2 {
         list(0, buf, out);

@@ -29,13 +29,13 @@ rest p s = cond (p .done) [] (listFrom (length s) (p .reading) (p .place) s)
 abbrev pub Bytes : List ℕ → Type 0
 Bytes s = (i : ℕ) → getD s i 0 < 256
 
-take-bytes : (m : ℕ) (s : List ℕ) → Bytes s → Bytes (take m s)
+pub take-bytes : (m : ℕ) (s : List ℕ) → Bytes s → Bytes (take m s)
 take-bytes zero s b i = omega arith
 take-bytes (suc m) [] b i = omega arith
 take-bytes (suc m) (x ∷ s) b zero = b 0
 take-bytes (suc m) (x ∷ s) b (suc i) = take-bytes m s (λ j. b (suc j)) i
 
-drop-bytes : (m : ℕ) (s : List ℕ) → Bytes s → Bytes (drop m s)
+pub drop-bytes : (m : ℕ) (s : List ℕ) → Bytes s → Bytes (drop m s)
 drop-bytes m s b i = subst (λ (x : ℕ). x < 256) (sym (getD-drop m s i 0)) (b (m + i))
 
 -- the move keeps to the listing of the input s, of which w is a window

@@ -1,20 +1,58 @@
-use mathlib.Core.Path.{_≡_, refl, _∙_, subst}
-use Prim.Native.Nat.{ℕ, _+_, _-_, _≤_}
+use mathlib.Core.Path.{_≡_, refl, sym, ap, _∙_}
+use mathlib.Core.List.{List, [], _∷_, _++_}
+use Prim.Native.Nat.{ℕ, suc, _+_, _-_, _≤_, _<_}
 use native.Mathlib.Omega.{arith}
-use lib.ListN.{length, getD, set, length-set}
-use Rattle.bollardine.specs.Shift.{Shifted, shifted-none, shifted-more}
+use lib.ListN.{length, getD, take, drop, set, length-set, length-drop}
+use lib.Seq.{getD-drop, getD-set-other, take-suc, take-suc-set}
 use borrow.Author.Needs.{needs}
 use Rattle.bollardine.proofs.shift.Statement.{statement}
 use Rattle.bollardine.proofs.shift.Tie as tie
 
+-- o bytes of `was` are moved to the start, and from i on it is as it was
+record Moved (was : List ℕ) (from to : ℕ) (buf : List ℕ) (i o : ℕ) : Type 0 where
+  placed : o + from ≡ i
+  within : i ≤ to
+  long : length buf ≡ length was
+  moved : take o buf ≡ take o (drop from was)
+  rest : (k : ℕ) → i ≤ k → getD buf k 0 ≡ getD was k 0
+
+-- one byte more
+more : (was : List ℕ) (from to : ℕ) (buf : List ℕ) (i o : ℕ) → to ≤ length was → i < to → Moved was from to buf i o → Moved was from to (set buf o (getD buf i 0)) (i + 1) (o + 1)
+more was from to buf i o fits lt m = record {
+  placed = omega (arith, m .placed);
+  within = omega arith;
+  long = simp length-set (m .long);
+  moved =
+      take-next o (set buf o (getD buf i 0))
+      ∙ take-suc-set buf o (getD buf i 0) (omega (arith, m .placed, m .long))
+      ∙ ap (λ (v : List ℕ). v ++ (getD buf i 0 ∷ [])) (m .moved)
+      ∙ ap (λ (x : ℕ). take o (drop from was) ++ (x ∷ [])) same
+      ∙ sym (take-suc (drop from was) o 0 (omega (arith, m .placed, length-drop from was)))
+      ∙ sym (take-next o (drop from was));
+  rest = λ k h. getD-set-other buf o k (getD buf i 0) 0 (λ e. omega (arith, m .placed)) ∙ m .rest k (omega arith);
+}
+  where
+    take-next : (k : ℕ) (l : List ℕ) → take (k + 1) l ≡ take (suc k) l
+    take-next k l = ap (λ (n : ℕ). take n l) {x = k + 1} {y = suc k} (omega arith)
+
+    -- the byte that is moved is as it was
+    same : getD buf i 0 ≡ getD (drop from was) o 0
+    same = m .rest i (omega arith) ∙ ap (λ (k : ℕ). getD was k 0) {x = i} {y = from + o} (omega (arith, m .placed)) ∙ sym (getD-drop from was o 0)
+
 abbrev Inv-loop : tie.InvT-loop
-Inv-loop buf₀ from to i₀ o₀ buf i o = (length buf ≡ length buf₀) × (from + o ≡ i) × (i ≤ to) × Shifted buf₀ from o buf
+Inv-loop buf₀ from to i₀ o₀ buf i o = Moved buf₀ from to buf i o
 
 abbrev μ-loop : tie.MeasureT-loop
 μ-loop buf₀ from to i₀ o₀ buf i o = to - i
 
 loop-holds : tie.Need-loop-holds Inv-loop μ-loop
-loop-holds c = (refl, omega arith, c .pre .0, shifted-none _ _)
+loop-holds c = record {
+  placed = omega arith;
+  within = c .pre .0;
+  long = refl;
+  moved = refl;
+  rest = λ k h. refl;
+}
 
 slice-read-buf : tie.Need-slice-read-buf Inv-loop μ-loop
 slice-read-buf c = search needs
@@ -32,23 +70,18 @@ loop-less : tie.Need-loop-less Inv-loop μ-loop
 loop-less c = search needs
 
 loop-again : tie.Need-loop-again Inv-loop μ-loop
-loop-again c =
-    let l = c .before .before .loop in
-    let s = c .before .before .before in (
-      length-set (l .buf) (l .o) _ ∙ l .inv .0,
-      omega (arith, l .inv .1),
-      omega (arith, c .before .loop-test .taken),
-      subst (λ (k : ℕ). Shifted (s .args .buf .now) (s .args .from) (l .o + 1) (set (l .buf) (l .o) (getD (l .buf) k 0))) (l .inv .1) (shifted-more _ _ _ _ (l .inv .3) (omega (arith, l .inv .0, l .inv .1, c .before .loop-test .taken, s .pre .1))),
-    )
+loop-again c = more _ _ _ _ _ _ (c .before .before .before .pre .1) (c .before .loop-test .taken) (c .before .before .loop .inv)
 
 same-length : tie.Need-same-length Inv-loop μ-loop
 same-length c = search needs
 
 returns : tie.Need-returns Inv-loop μ-loop
 returns c =
-    let l = c .before .loop in
-    let s = c .before .before .args in
-    subst (λ (n : ℕ). Shifted (s .buf .now) (s .from) n (l .buf)) (omega (arith, l .inv .1, l .inv .2, c .loop-test .left)) (l .inv .3)
+    let m = c .before .loop .inv in
+    let to = c .before .before .args .to in
+    let from = c .before .before .args .from in
+    let e : c .before .loop .o ≡ to - from = omega (arith, m .placed, m .within) in
+    (ap (λ (n : ℕ). take n (c .before .loop .buf)) (sym e) ∙ m .moved ∙ ap (λ (n : ℕ). take n (drop from (c .before .before .args .buf .now))) e, m .long)
 
 pub shift-spec : {M : Type 1} → statement M
 shift-spec =

@@ -1,21 +1,29 @@
 use borrow.Author.Needs.{needs}
-use mathlib.Core.Bool.{Bool, true}
-use mathlib.Core.List.{List}
-use Prim.Native.Nat.{ℕ, _+_, _≤_}
-use native.Mathlib.Nat.{min-le-left, le-trans}
-use lib.ListN.{length, take, length-take}
-use Rattle.bollardine.specs.Shell.{Good, good-stopped, good-after}
+use borrow.Author.Tests.{not-true, not-false, eq-eqb, ne-eqb}
+use mathlib.Core.Path.{_≡_, _∙_}
+use mathlib.Core.Bool.{Bool, true, false, _&&_, false≢true}
+use mathlib.Core.Logic.{⊎-elim}
+use Prim.Native.Nat.{_+_}
+use native.Mathlib.Omega.{arith}
+use lib.Dec.{eqb}
+use lib.ListN.{length}
+use Rattle.bollardine.specs.declared.Shell.{Shell}
+use Rattle.bollardine.specs.Shell.{Good, made, Turned}
+use Rattle.bollardine.specs.Kept.{good-stopped, has-read, has-failed, call-turned, turned-stopped}
+use Rattle.bollardine.specs.Roomy.{good-after}
 use Rattle.bollardine.proofs.turn.Statement.{statement}
 use Rattle.bollardine.proofs.turn.Tie as tie
 
 fill-requires : tie.Need-fill-requires
-fill-requires c κs = search needs
+fill-requires c κs = let p = c .before .before .before .pre in (p .good, p .going)
 
 same-length : tie.Need-same-length
 same-length c = search needs
 
 returns : tie.Need-returns
-returns c = search needs
+returns c =
+    let f = c .before .before .before .before .fill in
+    (f .ensures .0, has-failed (f .ensures .1) (not-true _ (c .if1 .taken)))
 
 sub-advance : tie.Need-sub-advance
 sub-advance c = search needs
@@ -53,22 +61,40 @@ fail-requires c κs = search needs
 ended-requires : tie.Need-ended-requires
 ended-requires c κs = search needs
 
-take-most : (n : ℕ) (l : List ℕ) → length (take n l) ≤ n
-take-most n l = rw (length-take n l) (min-le-left n (length l))
+-- the shell after the call
+abbrev after : (c : tie.After-advance) (still going : Bool) → Shell
+after c still going =
+    let f = c .before .before .before .before .before .before .before .before .before .fill .result in
+    record { progress = c .advance .result .progress; start = f .start + c .advance .result .taken; end = f .end; last = f .last; hungry = still; going = going }
 
--- the call takes no more than the window has
-after : (c : tie.After-advance) (hungry going : Bool) → Good (length (c .before .before .before .before .before .before .before .before .before .before .before .before .before .args .buf .now)) (record { progress = c .advance .result .progress; start = c .before .before .before .before .before .before .before .before .before .fill .result .start + c .advance .result .taken; end = c .before .before .before .before .before .before .before .before .before .fill .result .end; last = c .before .before .before .before .before .before .before .before .before .fill .result .last; hungry = hungry; going = going })
-after c hungry going =
-    good-after (c .before .before .before .before .before .before .before .before .before .fill .ensures) (c .advance .result) _ _ _ (c .advance .ensures .0) (le-trans (c .advance .ensures .1 .1 .0) (take-most _ _)) hungry going
+-- the call is handed all that was read and not yet taken
+turned : (c : tie.After-advance) (still going : Bool) → still ≡ (eqb (c .advance .result .taken) 0 && eqb (c .advance .result .written) 0) → Turned (c .before .before .before .before .before .before .before .before .before .before .before .before .before .args .buf .now) (c .before .before .before .before .before .before .before .before .before .fill .last .1 .0) (length (c .before .before .before .before .before .before .before .before .before .before .before .before .before .args .out .now)) (c .before .before .before .before .before .before .before .before .before .before .before .before .before .args .s) (after c still going)
+turned c still going e =
+    let f = c .before .before .before .before .before .before .before .before .before .fill in
+    call-turned _ _ _ _ (f .result) (has-read (f .ensures .1) (not-false _ (c .before .before .before .before .before .if1 .left))) (c .advance .result) (c .advance .ensures .0) (c .advance .ensures .1 .1 .0) still going e
+
+-- whether the call took and wrote nothing
+still : (c : tie.Joined2) → c .if2 .still ≡ (eqb (c .before .before .before .before .advance .result .taken) 0 && eqb (c .before .before .before .before .advance .result .written) 0)
+still c = ⊎-elim (λ w. rw (eq-eqb _ _ (w .0 .taken)) (w .1)) (λ w. let f = ne-eqb (c .before .before .before .before .advance .result .taken) 0 (w .0 .left) in rw f (w .1 ∙ f)) (c .if2 .came)
+
+-- what is kept after it
+good : (c : tie.Joined2) (going : Bool) → (going ≡ true → c .before .before .before .before .advance .result .progress .done ≡ false) → Good (length (c .before .before .before .before .before .before .before .before .before .before .before .before .before .before .before .before .before .args .buf .now)) (after (c .before .before .before .before) (c .if2 .still) going)
+good c going undone =
+    let a = c .before .before .before .before in
+    let f = a .before .before .before .before .before .before .before .before .before .fill in
+    let p = a .before .before .before .before .before .before .before .before .before .before .before .before .before .pre in
+    good-after (f .last .1 .0) (f .result) _ (f .ensures .0) (not-false _ (a .before .before .before .before .before .if1 .left)) (f .kept .1 .0) (p .enough .0) (p .enough .1) (a .advance .result) (a .advance .ensures .0) (a .advance .ensures .1 .1 .0) (c .if2 .still) going (still c) undone
 
 same-length-2 : tie.Need-same-length-2
-same-length-2 c = c .before .before .before .before .before .before .before .before .before .before .before .before .before .before .before .before .before .before .before .before .fill .kept .1 .0
+same-length-2 c = c .before .before .before .before .before .before .before .before .before .before .before .before .before .before .before .before .before .before .before .before .before .fill .kept .1 .0
 
 same-length-3 : tie.Need-same-length-3
 same-length-3 c = search needs
 
 returns-2 : tie.Need-returns-2
-returns-2 c = good-stopped (after (c .before .before .before .before .before .before .before .before .before .before .before) _ true) (c .ended .ensures)
+returns-2 c =
+    let j = c .before .before .before .before .before .before .before .before in
+    (good-stopped (good j false (λ on. absurd (false≢true on))) (c .ended .ensures), made (turned-stopped (turned (j .before .before .before .before) _ false (still j)) (c .ended .ensures)))
 
 slice-aggregate-write-all : tie.Need-slice-aggregate-write-all
 slice-aggregate-write-all c = search needs
@@ -80,13 +106,15 @@ ended-requires-2 : tie.Need-ended-requires-2
 ended-requires-2 c κs = search needs
 
 same-length-4 : tie.Need-same-length-4
-same-length-4 c = c .before .before .before .before .before .before .before .before .before .before .before .before .before .before .before .before .before .before .before .before .before .before .before .fill .kept .1 .0
+same-length-4 c = c .before .before .before .before .before .before .before .before .before .before .before .before .before .before .before .before .before .before .before .before .before .before .before .before .fill .kept .1 .0
 
 same-length-5 : tie.Need-same-length-5
 same-length-5 c = search needs
 
 returns-3 : tie.Need-returns-3
-returns-3 c = good-stopped (after (c .before .before .before .before .before .before .before .before .before .before .before .before .before .before) _ true) (c .ended2 .ensures)
+returns-3 c =
+    let j = c .before .before .before .before .before .before .before .before .before .before .before in
+    (good-stopped (good j false (λ on. absurd (false≢true on))) (c .ended2 .ensures), made (turned-stopped (turned (j .before .before .before .before) _ false (still j)) (c .ended2 .ensures)))
 
 same-length-6 : tie.Need-same-length-6
 same-length-6 c = search needs
@@ -95,7 +123,9 @@ same-length-7 : tie.Need-same-length-7
 same-length-7 c = search needs
 
 returns-4 : tie.Need-returns-4
-returns-4 c = after (c .before .before .before .before .before .before .before .before .before) _ _
+returns-4 c =
+    let j = c .before .before .before .before .before .before in
+    (good j _ (λ on. not-true _ on), made (turned (j .before .before .before .before) _ _ (still j)))
 
 pub turn-spec : {M : Type 1} → statement M
 turn-spec =
