@@ -56,7 +56,8 @@ struct bollardine_stepped {
     struct bollardine_state state;
 };
 
-/* Every call but bollardine_begin asks for a state that these calls gave, and for nothing else. */
+/* Every call but bollardine_begin asks for a state that these calls gave, and for nothing else; a row has
+ * `length` entries. */
 struct bollardine_answered bollardine_begin(struct bollardine_table t);
 struct bollardine_answered bollardine_complete(struct bollardine_state s, uint16_t i);
 struct bollardine_answered bollardine_arrive(struct bollardine_state s, uint16_t i);

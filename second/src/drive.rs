@@ -39,13 +39,13 @@ struct Pair {
 }
 
 fn main() {
-    let words: Vec<u64> = std::env::args().skip(1).map(|word| word.parse().expect("a number")).collect();
+    let words: Option<Vec<u64>> = std::env::args().skip(1).map(|word| word.parse().ok()).collect();
     let mut figures = Figures::default();
-    match words.as_slice() {
-        [] => SEEDS.iter().for_each(|seed| sequences(*seed, SEQUENCES, &mut figures)),
-        [seed, count] => sequences(*seed, *count, &mut figures),
+    match words.as_deref() {
+        Some([]) => SEEDS.iter().for_each(|seed| sequences(*seed, SEQUENCES, &mut figures)),
+        Some([seed, count]) => sequences(*seed, *count, &mut figures),
         _ => {
-            eprintln!("drive [SEED COUNT]");
+            eprintln!("usage: compare-calls [SEED COUNT]");
             process::exit(2);
         }
     }

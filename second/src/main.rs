@@ -27,6 +27,8 @@ second compare PROGRAM           compares the program's listings of the random t
 second compare PROGRAM SEED COUNT  the same for other random traces
 second stored FOLDER             writes the stored traces and their listings
 second show                      the trace on standard input in words
+second places                    the same, each record with the byte at which it starts
+second write                     the trace whose words are on standard input
 second wide SEED INDEX           one of these random traces
 second cover SEED COUNT [small]  how often each refusal and branch is reached over COUNT random traces
 ";
@@ -44,7 +46,9 @@ fn main() {
             _ => usage(),
         },
         ["stored", folder] => stored::write(folder),
-        ["show"] => show(),
+        ["show"] => show(words::shown),
+        ["places"] => show(words::placed),
+        ["write"] => write(),
         ["wide", seed, index] => match (number(seed), number(index)) {
             (Some(seed), Some(index)) => io::stdout().write_all(&wide::trace(seed, index)),
             _ => usage(),
@@ -88,10 +92,18 @@ fn list() -> io::Result<()> {
 }
 
 /// Shows the trace on standard input in words.
-fn show() -> io::Result<()> {
+fn show(shown: fn(&[u8]) -> String) -> io::Result<()> {
     let mut input = Vec::new();
     io::stdin().read_to_end(&mut input)?;
-    io::stdout().write_all(words::shown(&input).as_bytes())
+    io::stdout().write_all(shown(&input).as_bytes())
+}
+
+/// Writes the trace whose words are on standard input.
+fn write() -> io::Result<()> {
+    let mut text = String::new();
+    io::stdin().read_to_string(&mut text)?;
+    let trace = words::trace(text.trim_end().trim_end_matches(';')).map_err(io::Error::other)?;
+    io::stdout().write_all(&trace)
 }
 
 /// Writes a random trace.

@@ -269,8 +269,7 @@ pub fn page() -> String {
 
 `NAME.trace` is a trace and `NAME.listing` its listing. `worked.listing` is copied from document 01; the other files, and
 this page, are written by the second program (`second stored traces`) from the list in `second/src/stored.rs`, which has
-the records in words. `tools/run-traces` runs the program on each; `second show` writes the trace on standard input in
-words.
+the records in words. `tools/run-traces` runs the program on each, and `tools/show` writes one in words.
 
 | Trace | Shows |
 |---|---|

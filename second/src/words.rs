@@ -99,6 +99,22 @@ pub fn shown(trace: &[u8]) -> String {
     lines.join(";\n") + "\n"
 }
 
+/// A trace in words, each record on a line with the byte at which it starts, up to one that is no record in its place.
+pub fn placed(trace: &[u8]) -> String {
+    let mut reader = Reader::new(trace);
+    let mut text = String::new();
+    loop {
+        match reader.read() {
+            Ok(Some(item)) => text += &format!("{} {}\n", reader.start(), record(item)),
+            Ok(None) => return text,
+            Err(refusal) => {
+                let left = trace.len() - reader.start();
+                return text + &format!("{} refused {}, {} bytes left\n", reader.start(), refusal.0, left);
+            }
+        }
+    }
+}
+
 /// One record in words.
 fn record(item: Item) -> String {
     match item {
