@@ -137,6 +137,10 @@ class Place:
                 return f"{trace.stem} {ENDLESS}"
             if written != trace.with_suffix(".listing").read_bytes():
                 wrong.append(trace.stem)
+        worked = self.root / "traces/worked"
+        status, said = run(["sh", "-c", '"$0" "$1" <&-', program, worked.with_suffix(".trace")], self.folder, 5)
+        if said != worked.with_suffix(".listing").read_text():
+            wrong.append("worked by its name")
         return f"{len(wrong)}: {wrong[0]}" if wrong else ""
 
     def random(self, program):
@@ -151,8 +155,9 @@ class Place:
 
 def unproved(said):
     """The function, and the first fact of it that is not proved."""
-    found = re.search(r"proofs/([\w/]+)/\w+\.antt:\d+:\d+: error: `([^`]+)`", said)
-    if found:
-        return f"{found.group(1)}: {found.group(2)}"
+    for pattern in (r"proofs/([\w/]+)/\w+\.antt:\d+:\d+: error: `([^`]+)`", r"^fn (\S+): no proof: .* does not close `([^`]+)`"):
+        found = re.search(pattern, said, re.M)
+        if found:
+            return f"{found.group(1)}: {found.group(2)}"
     found = re.search(r"^(?:fn|rt:) (\S+): not proved", said, re.M)
     return found.group(1) if found else "refused"
