@@ -98,9 +98,10 @@ class Place:
         if status == 1:
             return (None, "") if ": error[" in said else (True, unproved(said))
         status, said = run(["rt", "check", asked], self.proved)
-        if status == 1:
-            return True, "in the full check, " + unproved(said)
-        return False, ACCEPTED if status == 0 else f"NOT TOLD: rt ends with {status}"
+        # a program that is proved is also run, and that is a test and not the prover
+        if status == 0 or "proved, and its run FAILED" in said:
+            return False, ACCEPTED
+        return (True, "in the full check, " + unproved(said)) if status == 1 else (False, f"NOT TOLD: rt ends with {status}")
 
     # ---- the tests
 
