@@ -138,11 +138,12 @@ class Place:
                 return f"{trace.stem} {ENDLESS}"
             if written != trace.with_suffix(".listing").read_bytes():
                 wrong.append(trace.stem)
+        if wrong:
+            return f"{len(wrong)}: {wrong[0]}"
+        # all are right by standard input; what is left is a file by its name
         worked = self.root / "traces/worked"
-        status, said = run(["sh", "-c", '"$0" "$1" <&-', program, worked.with_suffix(".trace")], self.folder, 5)
-        if said != worked.with_suffix(".listing").read_text():
-            wrong.append("worked by its name")
-        return f"{len(wrong)}: {wrong[0]}" if wrong else ""
+        _, said = run(["sh", "-c", '"$0" "$1" <&-', program, worked.with_suffix(".trace")], self.folder, 5)
+        return "" if said == worked.with_suffix(".listing").read_text() else "1: worked by its name"
 
     def random(self, program):
         """Which random trace is the first whose listing differs from that of the second program."""
