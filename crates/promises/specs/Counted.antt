@@ -15,6 +15,7 @@ use Rattle.rules.specs.Limits.{nobody}
 use Rattle.rules.specs.Threads.{State, at, contends}
 use Rattle.rules.specs.Table.{Answer, Done, Refused, Answered}
 use Rattle.rules.specs.Completion.{completion}
+use Rattle.rules.specs.Leaving.{gone}
 use Rattle.rules.specs.Arrival.{arrival}
 use Rattle.rules.specs.Drop.{dropped}
 use Rattle.rules.specs.Choice.{chosen}
@@ -22,7 +23,7 @@ use Rattle.rules.specs.Step.{Stepped, ready}
 use Rattle.rules.specs.Run.{stateAfter, ran}
 use Rattle.rules.specs.Calls as calls
 use Rattle.rules.specs.Calls.{Call, apply}
-use Rattle.rules.specs.History.{Happening, completed, arrived, dropped-to-head, granted, idle-tick, ifDone, tickAs, tickOf, ticksOf, runAs, happens, history, Job, Finished, Account, figureOf, longer, completeHead, withWaiting, accountOf, account, completionsOf, grantsTo}
+use Rattle.rules.specs.History.{Happening, completed, arrived, dropped-to-head, granted, idle-tick, became-active, became-inactive, ifDone, retiring, waking, leavings, tickAs, tickOf, ticksOf, runAs, happens, history, Job, Finished, Account, figureOf, longer, completeHead, withWaiting, accountOf, account, completionsOf, grantsTo}
 use Rattle.promises.specs.Cases.{by-test}
 use Rattle.promises.specs.Branches.{by-completion, by-step}
 use Rattle.promises.specs.Good.{Good}
@@ -31,7 +32,8 @@ use Rattle.promises.specs.Keep.{fine-at}
 use Rattle.promises.specs.Ready.{ready-ready, chosen-leads}
 use Rattle.promises.specs.Always.{steps-good, apply-good}
 use Rattle.promises.specs.Books.{Books, ready-standing}
-use Rattle.promises.specs.Ledger.{ticks-books, call-books}
+use Rattle.promises.specs.Happenings.{leavings-all, waking-all, retiring-all}
+use Rattle.promises.specs.Ledger.{account-still, leavings-unseen, ticks-books, call-books}
 
 -- ---- of an account alone
 -- the moments of its completed jobs, and the ticks in all its jobs
@@ -53,6 +55,8 @@ Fed i g (arrived k t) = Unit {0}
 Fed i g (dropped-to-head k t) = Unit {0}
 Fed i g (granted k t e) = k ≡ i → 0 < length (g .waiting)
 Fed i g (idle-tick t) = Unit {0}
+Fed i g (became-active k t) = Unit {0}
+Fed i g (became-inactive k t z f) = Unit {0}
 
 abbrev AllFed : ℕ → ℕ → ℕ → Account → List Happening → Type 0
 AllFed q u i g [] = Unit {0}
@@ -70,6 +74,8 @@ completions-cons i (arrived k t) hs = refl
 completions-cons i (dropped-to-head k t) hs = refl
 completions-cons i (granted k t e) hs = refl
 completions-cons i (idle-tick t) hs = refl
+completions-cons i (became-active k t) hs = refl
+completions-cons i (became-inactive k t z f) hs = refl
 
 grants-cons : (i : ℕ) (h : Happening) (hs : List Happening) → grantsTo i (h ∷ hs) ≡ grantsTo i (h ∷ []) + grantsTo i hs
 unfolding grantsTo
@@ -78,6 +84,8 @@ grants-cons i (arrived k t) hs = omega arith
 grants-cons i (dropped-to-head k t) hs = omega arith
 grants-cons i (granted k t e) hs = omega arith
 grants-cons i (idle-tick t) hs = omega arith
+grants-cons i (became-active k t) hs = omega arith
+grants-cons i (became-inactive k t z f) hs = omega arith
 
 module _ (q u i : ℕ) (g : Account) where
   -- one thing more
@@ -96,6 +104,8 @@ module _ (q u i : ℕ) (g : Account) where
   one-moment (dropped-to-head k t) f = by-test (λ (a : Account). momentsIn a ≡ momentsIn g ++ []) (eqb k i) (λ _. sym (append-nil (momentsIn g))) (λ _. sym (append-nil (momentsIn g)))
   one-moment (granted k t e) f = by-test (λ (a : Account). momentsIn a ≡ momentsIn g ++ []) (eqb k i) (λ _. sym (append-nil (momentsIn g))) (λ _. sym (append-nil (momentsIn g)))
   one-moment (idle-tick t) f = sym (append-nil (momentsIn g))
+  one-moment (became-active k t) f = sym (append-nil (momentsIn g))
+  one-moment (became-inactive k t z b) f = sym (append-nil (momentsIn g))
 
   one-head : (h : Happening) → HeadOnly (g .waiting) → HeadOnly (accountOf q u i g h .waiting)
   one-head (completed k t) o = by-test P (eqb k i) (λ _. go (g .waiting) o) (λ _. o)
@@ -126,6 +136,8 @@ module _ (q u i : ℕ) (g : Account) where
       go [] o = o
       go (j ∷ js) o = o
   one-head (idle-tick t) o = o
+  one-head (became-active k t) o = o
+  one-head (became-inactive k t z f) o = o
 
   abbrev lengths : List Job → ℕ
   lengths js = sumBy (λ (j : Job). j .length) js
@@ -160,6 +172,8 @@ module _ (q u i : ℕ) (g : Account) where
       go true h = omega (arith, head (g .waiting) (h refl))
       go false h = omega arith
   one-tick (idle-tick t) f o = omega arith
+  one-tick (became-active k t) f o = omega arith
+  one-tick (became-inactive k t z b) f o = omega arith
 
 -- the whole history
 pub moments-counted : (q u i : ℕ) (hs : List Happening) (g : Account) → AllFed q u i g hs → momentsIn (account q u i g hs) ≡ momentsIn g ++ completionsOf i hs
@@ -182,15 +196,32 @@ unfolding account
 fed-append q u i [] ks g f k = k
 fed-append q u i (h ∷ hs) ks g f k = (f .0, fed-append q u i hs ks (accountOf q u i g h) (f .1) k)
 
--- an arrival or a drop asks nothing
-other-fed : (q u i : ℕ) (g : Account) (a : Answer) (h : Happening) → Fed i g h → AllFed q u i g (ifDone a h)
-other-fed q u i g Done h f = (f, tt)
-other-fed q u i g (Refused n) h f = tt
+-- .. and so do things that ask nothing
+module _ (q u i : ℕ) where
+  abbrev Asks-nothing : Happening → Type 0
+  Asks-nothing h = (g : Account) → Fed i g h
+
+  all-fed : {hs : List Happening} → All Asks-nothing hs → (g : Account) → AllFed q u i g hs
+  all-fed none g = tt
+  all-fed (more {x = h} p a) g = (p g, all-fed a (accountOf q u i g h))
+
+  leavings-feed : (s : State) → All Asks-nothing (leavings s)
+  leavings-feed s = leavings-all Asks-nothing (λ _ _ _ _ _. tt) s
+
+  -- an event that is refused, or asks nothing
+  other-fed : (g : Account) (a : Answer) {hs : List Happening} → All Asks-nothing hs → AllFed q u i g (ifDone a hs)
+  other-fed g Done p = all-fed p g
+  other-fed g (Refused n) p = tt
+
+  -- a tick after those who leave
+  left-fed : (g : Account) (s : State) (hs : List Happening) → AllFed q u i g hs → AllFed q u i g (leavings s ++ hs)
+  left-fed g s hs f = fed-append q u i (leavings s) hs g (all-fed (leavings-feed s) g) (rw (account-still q u i (leavings-unseen q u i s) g) f)
 
 module _ {q u p i : ℕ} where
   tick-fed : {g : Account} {s : State} → Good s → Books q u p i g s → AllFed q u i g (tickOf s)
   unfolding tickOf
-  tick-fed {g} {s} good b = by-step s P (λ _. tt) (λ _ _. (tt, tt)) (λ _ n. (runs n, tt))
+  tick-fed {g} {s} good b = by-step s P (λ _. tt) (λ _ _. left-fed q u i g s (idle-tick (s .clock .0) ∷ []) (tt, tt))
+      (λ _ n. left-fed q u i g s (granted (chosen (ready s)) (s .clock .0) (at (ready s .threads) (chosen (ready s)) .e .0) ∷ []) (runs n, tt))
     where
       P : Stepped → Type 0
       P r = AllFed q u i g (tickAs (r .outcome) s)
@@ -207,11 +238,11 @@ module _ {q u p i : ℕ} where
   ticks-fed zero good b = tt
   ticks-fed (suc n) {g} {s} good b = fed-append q u i (ticksOf n s) (tickOf (stateAfter n s)) g (ticks-fed n good b) (tick-fed (steps-good n good) (ticks-books n good b))
 
-  complete-fed : (j : ℕ) {g : Account} {s : State} → Good s → Books q u p i g s → AllFed q u i g (ifDone (completion s j .answer) (completed j (s .clock .0)))
-  complete-fed j {g} {s} good b = by-completion s P j (λ _. tt) (λ h c d e. (runs h c d e, tt))
+  complete-fed : (j : ℕ) {g : Account} {s : State} → Good s → Books q u p i g s → AllFed q u i g (ifDone (completion s j .answer) (completed j (s .clock .0) ∷ retiring s j))
+  complete-fed j {g} {s} good b = by-completion s P j (λ _. tt) (λ h c d e. (runs h c d e, all-fed q u i (retiring-all (Asks-nothing q u i) (λ _ _ _ _ _. tt) s j) _))
     where
       P : Answered → Type 0
-      P r = AllFed q u i g (ifDone (r .answer) (completed j (s .clock .0)))
+      P r = AllFed q u i g (ifDone (r .answer) (completed j (s .clock .0) ∷ retiring s j))
 
       runs : j < s .count → s .closed ≡ false → s .completed ≡ false → j ≡ s .had → j ≡ i → 0 < length (g .waiting)
       runs h c d e o =
@@ -225,8 +256,8 @@ module _ {q u p i : ℕ} where
 
   call-fed : (c : Call) {g : Account} {s : State} → Good s → Books q u p i g s → AllFed q u i g (happens s c)
   call-fed (calls.complete j) good b = complete-fed j good b
-  call-fed (calls.arrive j) {g} {s} good b = other-fed q u i g (arrival s j .answer) (arrived j (s .clock .0)) tt
-  call-fed (calls.drop j) {g} {s} good b = other-fed q u i g (dropped s j .answer) (dropped-to-head j (s .clock .0)) tt
+  call-fed (calls.arrive j) {g} {s} good b = other-fed q u i g (arrival s j .answer) (all-append (leavings-feed q u i s) (all-append (waking-all (Asks-nothing q u i) (λ _ _ _. tt) (gone s) j) (more (λ _. tt) none)))
+  call-fed (calls.drop j) {g} {s} good b = other-fed q u i g (dropped s j .answer) {hs = dropped-to-head j (s .clock .0) ∷ []} (more (λ _. tt) none)
   call-fed calls.step good b = tick-fed good b
   call-fed (calls.run to row) {g} {s} good b = run-fed (ran s to row .result .answer) (to - s .clock .0) good b
 

@@ -18,7 +18,7 @@ use Rattle.rules.specs.Threads.{State, at}
 use Rattle.rules.specs.Table.{Table, Done, meant, rowAt, tableAnswer, start}
 use Rattle.rules.specs.Step.{ready}
 use Rattle.rules.specs.Calls.{Call, after}
-use Rattle.rules.specs.History.{Happening, completed, arrived, dropped-to-head, granted, idle-tick, history, Job, Finished, Account, noJobs, account, completionsOf, grantsTo}
+use Rattle.rules.specs.History.{Happening, completed, arrived, dropped-to-head, granted, idle-tick, became-active, became-inactive, history, Job, Finished, Account, noJobs, account, completionsOf, grantsTo}
 
 -- "a thread's virtual time never passes its deadline": W ≤ E of every thread
 abbrev pub WithinDeadline : State → Type 0
@@ -31,6 +31,8 @@ EndsInTime u (arrived i m) = Unit {0}
 EndsInTime u (dropped-to-head i m) = Unit {0}
 EndsInTime u (granted i k e) = pos (u i * (k + 1)) ≤ℤ e
 EndsInTime u (idle-tick k) = Unit {0}
+EndsInTime u (became-active i m) = Unit {0}
+EndsInTime u (became-inactive i m z f) = Unit {0}
 
 -- "each job completes strictly earlier than one period of its thread after [its dedicated completion]":
 -- u × completion < figure + u × P

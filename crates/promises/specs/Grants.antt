@@ -10,6 +10,7 @@ use Rattle.lists.specs.All.{All, none, more, all-append}
 use Rattle.rules.specs.Threads.{State, at}
 use Rattle.rules.specs.Table.{Answer, Done, Refused}
 use Rattle.rules.specs.Completion.{completion}
+use Rattle.rules.specs.Leaving.{gone}
 use Rattle.rules.specs.Arrival.{arrival}
 use Rattle.rules.specs.Drop.{dropped}
 use Rattle.rules.specs.Choice.{chosen}
@@ -17,8 +18,9 @@ use Rattle.rules.specs.Step.{Stepped, ready}
 use Rattle.rules.specs.Run.{ran}
 use Rattle.rules.specs.Calls as calls
 use Rattle.rules.specs.Calls.{Call}
-use Rattle.rules.specs.History.{Happening, completed, arrived, dropped-to-head, ifDone, tickAs, tickOf, ticksOf, runAs, happens, history}
+use Rattle.rules.specs.History.{Happening, completed, arrived, dropped-to-head, ifDone, retiring, waking, leavings, tickAs, tickOf, ticksOf, runAs, happens, history}
 use Rattle.promises.specs.Branches.{by-step}
+use Rattle.promises.specs.Happenings.{leavings-all, waking-all, retiring-all}
 use Rattle.promises.specs.Demand3.{EndsInTime}
 use Rattle.promises.specs.Good.{Good}
 use Rattle.promises.specs.Keep.{fine-at}
@@ -50,8 +52,8 @@ module _ {u : ℕ → ℕ} where
   unfolding tickOf
   tick-in-time {s} k g =
       by-step s (λ (r : Stepped). All (EndsInTime u) (tickAs (r .outcome) s)) (λ _. none)
-      (λ _ _. more tt none)
-      (λ _ n. more (grant-in-time k g (chosen (ready s)) (chosen-leads (ready-ready g) n)) none)
+      (λ _ _. all-append (leavings-all (EndsInTime u) (λ _ _ _ _. tt) s) (more tt none))
+      (λ _ n. all-append (leavings-all (EndsInTime u) (λ _ _ _ _. tt) s) (more (grant-in-time k g (chosen (ready s)) (chosen-leads (ready-ready g) n)) none))
 
   ticks-in-time : (n : ℕ) {s : State} → Shares u s → Good s → All (EndsInTime u) (ticksOf n s)
   unfolding ticksOf
@@ -59,18 +61,18 @@ module _ {u : ℕ → ℕ} where
   ticks-in-time (suc n) {s} k g = all-append (ticks-in-time n k g) (tick-in-time (shares-then (steps-same n s) k) (steps-good n g))
 
   -- what is no tick
-  event-in-time : (a : Answer) (h : Happening) → EndsInTime u h → All (EndsInTime u) (ifDone a h)
-  event-in-time Done h p = more p none
-  event-in-time (Refused n) h p = none
+  event-in-time : (a : Answer) (hs : List Happening) → All (EndsInTime u) hs → All (EndsInTime u) (ifDone a hs)
+  event-in-time Done hs p = p
+  event-in-time (Refused n) hs p = none
 
   run-in-time : (a : Answer) (n : ℕ) {s : State} → Shares u s → Good s → All (EndsInTime u) (runAs a n s)
   run-in-time Done n k g = ticks-in-time n k g
   run-in-time (Refused m) n k g = none
 
   call-in-time : (c : Call) {s : State} → Shares u s → Good s → All (EndsInTime u) (happens s c)
-  call-in-time (calls.complete i) {s} k g = event-in-time (completion s i .answer) (completed i (s .clock .0)) tt
-  call-in-time (calls.arrive i) {s} k g = event-in-time (arrival s i .answer) (arrived i (s .clock .0)) tt
-  call-in-time (calls.drop i) {s} k g = event-in-time (dropped s i .answer) (dropped-to-head i (s .clock .0)) tt
+  call-in-time (calls.complete i) {s} k g = event-in-time (completion s i .answer) (completed i (s .clock .0) ∷ retiring s i) (more tt (retiring-all (EndsInTime u) (λ _ _ _ _. tt) s i))
+  call-in-time (calls.arrive i) {s} k g = event-in-time (arrival s i .answer) _ (all-append (leavings-all (EndsInTime u) (λ _ _ _ _. tt) s) (all-append (waking-all (EndsInTime u) (λ _ _. tt) (gone s) i) (more tt none)))
+  call-in-time (calls.drop i) {s} k g = event-in-time (dropped s i .answer) (dropped-to-head i (s .clock .0) ∷ []) (more tt none)
   call-in-time calls.step k g = tick-in-time k g
   call-in-time (calls.run to row) {s} k g = run-in-time (ran s to row .result .answer) (to - s .clock .0) k g
 

@@ -7,7 +7,7 @@ use native.Mathlib.Omega.{arith}
 use borrow.Author.Tests.{eqb-true}
 use lib.Dec.{T, eqb}
 use lib.ListN.{length, take, set}
-use Rattle.lists.specs.All.{All}
+use Rattle.lists.specs.All.{All, none, more}
 use Rattle.lists.specs.Take.{at-put}
 use Rattle.rules.specs.Threads.{Thread, State, withRows, blank, at, contends}
 use Rattle.rules.specs.Table.{Answered}
@@ -20,9 +20,10 @@ use Rattle.rules.specs.Step.{Stepped, ready, stepped}
 use Rattle.rules.specs.Run.{Ran, stateAfter, ran}
 use Rattle.rules.specs.Calls as calls
 use Rattle.rules.specs.Calls.{Call, apply, after}
-use Rattle.rules.specs.History.{Happening, arrived as arrived-at, completed, dropped-to-head, ifDone, tickAs, tickOf, ticksOf, runAs, happens, history, Account, completeHead, withWaiting, account, accountOf}
+use Rattle.rules.specs.History.{Happening, arrived as arrived-at, completed, granted, idle-tick, dropped-to-head, ifDone, retiring, waking, leavings, tickAs, tickOf, ticksOf, runAs, happens, history, Account, completeHead, withWaiting, account, accountOf}
 use Rattle.promises.specs.Cases.{by-test, true-false}
 use Rattle.promises.specs.Branches.{by-completion, by-arrival, by-drop, by-step, by-run}
+use Rattle.promises.specs.Happenings.{leavings-all, waking-all, retiring-all}
 use Rattle.promises.specs.Good.{Fine, Good}
 use Rattle.promises.specs.Keep.{inside, fine-at}
 use Rattle.promises.specs.Ready.{gone-beside, ready-ready, chosen-leads, none-contends}
@@ -30,6 +31,34 @@ use Rattle.promises.specs.Always.{steps-good, apply-good}
 use Rattle.promises.specs.Books.{Books, Standing, gone-standing, ready-standing, same-finished, idle-books, grant-books, arrived-books, completing-agrees}
 use Rattle.promises.specs.Demand3.{OnTime}
 use Rattle.promises.specs.Jobs.{Agrees, Close, Completes, drop-agrees, drop-close, completes}
+
+-- ---- the account goes on from where it was
+account-append : (q u i : ℕ) (g : Account) (hs ks : List Happening) → account q u i g (hs ++ ks) ≡ account q u i (account q u i g hs) ks
+unfolding account
+account-append q u i g [] ks = refl
+account-append q u i g (h ∷ hs) ks = account-append q u i (accountOf q u i g h) hs ks
+
+-- .. and does not see who becomes active or inactive
+module _ (q u i : ℕ) where
+  abbrev pub Unseen : Happening → Type 0
+  Unseen h = (g : Account) → accountOf q u i g h ≡ g
+
+  pub account-still : {hs : List Happening} → All Unseen hs → (g : Account) → account q u i g hs ≡ g
+  unfolding account
+  account-still none g = refl
+  account-still (more {xs = hs} p a) g = ap (λ k. account q u i k hs) (p g) ∙ account-still a g
+
+  account-after : {hs : List Happening} → All Unseen hs → (g : Account) (ks : List Happening) → account q u i g (hs ++ ks) ≡ account q u i g ks
+  account-after {hs} a g ks = account-append q u i g hs ks ∙ ap (λ k. account q u i k ks) (account-still a g)
+
+  pub leavings-unseen : (s : State) → All Unseen (leavings s)
+  leavings-unseen s = leavings-all Unseen (λ _ _ _ _ _. refl) s
+
+  pub waking-unseen : (s : State) (j : ℕ) → All Unseen (waking s j)
+  waking-unseen s j = waking-all Unseen (λ _ _ _. refl) s j
+
+  pub retiring-unseen : (s : State) (j : ℕ) → All Unseen (retiring s j)
+  retiring-unseen s j = retiring-all Unseen (λ _ _ _ _ _. refl) s j
 
 -- ---- the calls, but for a run
 module _ {q u p i : ℕ} {g : Account} {s : State} (good : Good s) (b : Books q u p i g s) where
@@ -43,8 +72,8 @@ module _ {q u p i : ℕ} {g : Account} {s : State} (good : Good s) (b : Books q 
   unfolding tickOf account
   tick-books =
       by-step s After (λ _. b)
-      (λ _ e. idle-books k (none-contends (ready-ready good) e i (k .inside)))
-      (λ _ n. grant-books k (chosen z) (chosen-leads (ready-ready good) n .leads .runs))
+      (λ _ e. rw (account-after q u i (leavings-unseen q u i s) g (idle-tick (s .clock .0) ∷ [])) (idle-books k (none-contends (ready-ready good) e i (k .inside))))
+      (λ _ n. rw (account-after q u i (leavings-unseen q u i s) g (granted (chosen z) (s .clock .0) (at (z .threads) (chosen z) .e .0) ∷ [])) (grant-books k (chosen z) (chosen-leads (ready-ready good) n .leads .runs)))
     where
       z : State
       z = ready s
@@ -59,17 +88,20 @@ module _ {q u p i : ℕ} {g : Account} {s : State} (good : Good s) (b : Books q 
   unfolding account
   arrival-books j =
       by-arrival s After j (λ _. b)
-      (λ _ _. subst (λ t. Books q u p i (accountOf q u i g (arrived-at j t)) (arrived (gone s) j)) (ap (λ m. m .0) (gone-beside s .clock)) (arrived-books (gone-standing good b) q-pos j))
+      (λ _ _. rw (
+        account-after q u i (leavings-unseen q u i s) g (waking (gone s) j ++ (arrived-at j (s .clock .0) ∷ [])),
+        account-after q u i (waking-unseen q u i (gone s) j) g (arrived-at j (s .clock .0) ∷ []),
+      ) (subst (λ t. Books q u p i (accountOf q u i g (arrived-at j t)) (arrived (gone s) j)) (ap (λ m. m .0) (gone-beside s .clock)) (arrived-books (gone-standing good b) q-pos j)))
     where
       After : Answered → Type 0
-      After r = Books q u p i (account q u i g (ifDone (r .answer) (arrived-at j (s .clock .0)))) (r .state)
+      After r = Books q u p i (account q u i g (ifDone (r .answer) (leavings s ++ (waking (gone s) j ++ (arrived-at j (s .clock .0) ∷ []))))) (r .state)
 
   drop-books : (j : ℕ) → Books q u p i (account q u i g (happens s (calls.drop j))) (dropped s j .state)
   unfolding account headOnly
   drop-books j = by-drop s After j (λ _. b) (λ _. into)
     where
       After : Answered → Type 0
-      After r = Books q u p i (account q u i g (ifDone (r .answer) (dropped-to-head j (s .clock .0)))) (r .state)
+      After r = Books q u p i (account q u i g (ifDone (r .answer) (dropped-to-head j (s .clock .0) ∷ []))) (r .state)
 
       h : Bool → Account
       h d = cond d (withWaiting g (take 1 (g .waiting))) g
@@ -100,10 +132,10 @@ module _ {q u p i : ℕ} {g : Account} {s : State} (good : Good s) (b : Books q 
   unfolding afterCompletion account
   completion-books j =
       by-completion s After j (λ _. b)
-      (λ _ c d e. into (λ o. subst (λ k. Completes q u p h (at (s .threads) k)) (sym o) (in-time c d (sym e ∙ o))))
+      (λ _ c d e. rw (account-still q u i (retiring-unseen q u i s j) (cond (eqb j i) h g)) (into (λ o. subst (λ k. Completes q u p h (at (s .threads) k)) (sym o) (in-time c d (sym e ∙ o)))))
     where
       After : Answered → Type 0
-      After r = Books q u p i (account q u i g (ifDone (r .answer) (completed j (s .clock .0)))) (r .state)
+      After r = Books q u p i (account q u i g (ifDone (r .answer) (completed j (s .clock .0) ∷ retiring s j))) (r .state)
 
       h : Account
       h = completeHead q u (s .clock .0) g (g .waiting)
@@ -116,12 +148,6 @@ module _ {q u p i : ℕ} {g : Account} {s : State} (good : Good s) (b : Books q 
         soon = λ _ e _. absurd (true-false e);
         on-time = by-test (λ (a : Account). All (OnTime u p) (a .finished)) (eqb j i) (λ e. own (eqb-true j i e) .on-time) (λ _. b .on-time);
       }
-
--- the account goes on from where it was
-account-append : (q u i : ℕ) (g : Account) (hs ks : List Happening) → account q u i g (hs ++ ks) ≡ account q u i (account q u i g hs) ks
-unfolding account
-account-append q u i g [] ks = refl
-account-append q u i g (h ∷ hs) ks = account-append q u i (accountOf q u i g h) hs ks
 
 -- ---- every call, and every sequence of calls
 module _ {q u p i : ℕ} where

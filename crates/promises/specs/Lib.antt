@@ -2,6 +2,7 @@ pub mod Demand3
 pub mod Refused
 pub mod Cases
 pub mod Branches
+pub mod Happenings
 pub mod Deadlines
 pub mod Good
 pub mod Shares

@@ -170,3 +170,18 @@ pub struct Turn {
     pub written: usize,
     pub progress: Progress,
 }
+
+// A stretch of an application: since when it holds, the ticks granted to the application since, and
+// the capacity that it lost since.
+pub struct Stretch {
+    pub since: Moment,
+    pub granted: u32,
+    pub lost: Amount,
+}
+
+// Where an application stands: how many of its threads are active, and the stretch that holds while
+// some are.
+pub struct Activity {
+    pub active: u32,
+    pub stretch: Stretch,
+}

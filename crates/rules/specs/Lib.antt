@@ -12,7 +12,9 @@ pub mod Step
 pub mod Run
 pub mod Calls
 pub mod History
+pub mod Stretches
 pub mod Records
 pub mod Reading
 pub mod Listing
+pub mod Report
 pub mod Input
