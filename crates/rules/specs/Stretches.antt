@@ -5,7 +5,7 @@ use mathlib.Core.List.{List, [], _∷_, _++_}
 use Prim.Native.Nat.{ℕ, zero, suc, _+_, _*_, _-_}
 use lib.Dec.{eqb}
 use lib.IntN.{ℤ, pos, _+ℤ_, _-ℤ_}
-use lib.ListN.{getD, set, take, replicate}
+use lib.ListN.{length, getD, set, take, replicate}
 use Rattle.lists.specs.MapTo.{mapTo}
 use Rattle.rules.specs.Limits.{apps}
 use Rattle.rules.specs.Threads.{Thread, State, amt, scaled, activeIn}
@@ -81,7 +81,7 @@ noted app cs (completed i t) = cs
 noted app cs (arrived i t) = cs
 noted app cs (dropped-to-head i t) = cs
 noted app cs (granted i t e) = set cs (app i) (runs (activityAt cs (app i)))
-noted app cs (idle-tick t) = mapTo apps forgets cs
+noted app cs (idle-tick t) = mapTo (length cs) forgets cs
 noted app cs (became-active i t) = set cs (app i) (wakes t (activityAt cs (app i)))
 noted app cs (became-inactive i t z f) = set cs (app i) (rests (lostAs f z) (activityAt cs (app i)))
 
@@ -117,7 +117,7 @@ ends app cs (completed i t) = []
 ends app cs (arrived i t) = []
 ends app cs (dropped-to-head i t) = []
 ends app cs (granted i t e) = []
-ends app cs (idle-tick t) = cutTo t cs apps
+ends app cs (idle-tick t) = cutTo t cs (length cs)
 ends app cs (became-active i t) = []
 ends app cs (became-inactive i t z f) = overAt t (app i) (rests (lostAs f z) (activityAt cs (app i)))
 

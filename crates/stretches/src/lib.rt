@@ -1,0 +1,1 @@
+// Laws only: what holds of the stretches of applications.
