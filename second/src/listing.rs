@@ -8,8 +8,8 @@ use std::io::{self, Write};
 /// The heading line.
 pub const HEADING: &str = "tick thread app deadline virtual";
 
-/// Why a listing stops early.
-enum Stop {
+/// Why a listing or a report stops early.
+pub enum Stop {
     Refused(Refusal),
     Output(io::Error),
 }
@@ -26,11 +26,22 @@ impl From<io::Error> for Stop {
     }
 }
 
-/// Writes the listing of a trace.
-pub fn list<W: Write>(input: &[u8], out: &mut W) -> io::Result<()> {
-    writeln!(out, "{}", HEADING)?;
+/// What is told of a trace while it is played.
+pub trait Teller<W: Write> {
+    /// The table has all its rows.
+    fn begin(&mut self, schedule: &mut Schedule);
+    /// A tick was taken.
+    fn tick(&mut self, schedule: &mut Schedule, tick: u32, answer: Tick, out: &mut W) -> io::Result<()>;
+    /// An event was accepted.
+    fn event(&mut self, schedule: &mut Schedule, out: &mut W) -> io::Result<()>;
+    /// The input has ended.
+    fn end(&mut self, schedule: &Schedule, out: &mut W) -> io::Result<()>;
+}
+
+/// Plays a trace: what is told of it, and the last line.
+pub fn tell<W: Write, T: Teller<W>>(input: &[u8], teller: &mut T, out: &mut W) -> io::Result<()> {
     let mut reader = Reader::new(input);
-    match play(&mut reader, out) {
+    match play(&mut reader, teller, out) {
         Ok(clock) => {
             hit(Branch::Ended);
             writeln!(out, "end {}", clock)
@@ -43,6 +54,46 @@ pub fn list<W: Write>(input: &[u8], out: &mut W) -> io::Result<()> {
     }
 }
 
+/// The lines of the ticks.
+struct Lines;
+
+impl<W: Write> Teller<W> for Lines {
+    fn begin(&mut self, _: &mut Schedule) {}
+
+    fn tick(&mut self, schedule: &mut Schedule, tick: u32, answer: Tick, out: &mut W) -> io::Result<()> {
+        match answer {
+            Tick::Idle => writeln!(out, "{} - - - -", tick),
+            Tick::Grant(number) => {
+                let thread = &schedule.threads()[usize::from(number)];
+                let amounts = thread.amounts();
+                writeln!(
+                    out,
+                    "{} {} {} {} {}",
+                    tick,
+                    number,
+                    thread.application(),
+                    amounts.e,
+                    amounts.w
+                )
+            }
+        }
+    }
+
+    fn event(&mut self, _: &mut Schedule, _: &mut W) -> io::Result<()> {
+        Ok(())
+    }
+
+    fn end(&mut self, _: &Schedule, _: &mut W) -> io::Result<()> {
+        Ok(())
+    }
+}
+
+/// Writes the listing of a trace.
+pub fn list<W: Write>(input: &[u8], out: &mut W) -> io::Result<()> {
+    writeln!(out, "{}", HEADING)?;
+    tell(input, &mut Lines, out)
+}
+
 /// The listing of a trace as bytes.
 #[cfg(test)]
 pub fn listing(input: &[u8]) -> Vec<u8> {
@@ -52,8 +103,9 @@ pub fn listing(input: &[u8]) -> Vec<u8> {
 }
 
 /// Reads the table, then plays the events; gives the clock at the end of input.
-fn play<W: Write>(reader: &mut Reader, out: &mut W) -> Result<u32, Stop> {
+fn play<W: Write, T: Teller<W>>(reader: &mut Reader, teller: &mut T, out: &mut W) -> Result<u32, Stop> {
     let mut schedule = read_table(reader)?;
+    teller.begin(&mut schedule);
     while let Some(item) = reader.read()? {
         match item {
             Item::Head { .. } | Item::Row(_) => unreachable!("refused 16"),
@@ -62,22 +114,24 @@ fn play<W: Write>(reader: &mut Reader, out: &mut W) -> Result<u32, Stop> {
                 if tick == schedule.clock() {
                     hit(Branch::RunToPresent);
                 }
-                run(&mut schedule, tick, out)?;
+                run(&mut schedule, tick, teller, out)?;
             }
             Item::Arrival { tick, thread } => {
-                approach(&mut schedule, tick, thread, out)?;
+                approach(&mut schedule, tick, thread, teller, out)?;
                 schedule.arrival(thread)?;
             }
             Item::Completion { tick, thread } => {
-                approach(&mut schedule, tick, thread, out)?;
+                approach(&mut schedule, tick, thread, teller, out)?;
                 schedule.completion(thread)?;
             }
             Item::Drop { tick, thread } => {
-                approach(&mut schedule, tick, thread, out)?;
+                approach(&mut schedule, tick, thread, teller, out)?;
                 schedule.drop_jobs(thread)?;
             }
         }
+        teller.event(&mut schedule, out)?;
     }
+    teller.end(&schedule, out)?;
     Ok(schedule.clock())
 }
 
@@ -96,33 +150,25 @@ fn read_table(reader: &mut Reader) -> Result<Schedule, Refusal> {
     Ok(table.start())
 }
 
-/// Checks a record's tick and thread, then runs and lists the ticks before its moment.
-fn approach<W: Write>(schedule: &mut Schedule, tick: u32, thread: u16, out: &mut W) -> Result<(), Stop> {
+/// Checks a record's tick and thread, then takes the ticks before its moment.
+fn approach<W: Write, T: Teller<W>>(
+    schedule: &mut Schedule,
+    tick: u32,
+    thread: u16,
+    teller: &mut T,
+    out: &mut W,
+) -> Result<(), Stop> {
     schedule.admit_tick(tick)?;
     schedule.admit_thread(thread)?;
-    run(schedule, tick, out)
+    run(schedule, tick, teller, out)
 }
 
-/// Runs and lists the ticks before a moment.
-fn run<W: Write>(schedule: &mut Schedule, to: u32, out: &mut W) -> Result<(), Stop> {
+/// Takes the ticks before a moment.
+fn run<W: Write, T: Teller<W>>(schedule: &mut Schedule, to: u32, teller: &mut T, out: &mut W) -> Result<(), Stop> {
     while schedule.clock() < to {
         let tick = schedule.clock();
-        match schedule.step()? {
-            Tick::Idle => writeln!(out, "{} - - - -", tick)?,
-            Tick::Grant(number) => {
-                let thread = &schedule.threads()[usize::from(number)];
-                let amounts = thread.amounts();
-                writeln!(
-                    out,
-                    "{} {} {} {} {}",
-                    tick,
-                    number,
-                    thread.application(),
-                    amounts.e,
-                    amounts.w
-                )?;
-            }
-        }
+        let answer = schedule.step()?;
+        teller.tick(schedule, tick, answer, out)?;
     }
     Ok(())
 }

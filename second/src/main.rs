@@ -5,6 +5,7 @@ mod compare;
 mod cover;
 mod listing;
 mod random;
+mod report;
 mod schedule;
 mod stored;
 #[cfg(test)]
@@ -20,6 +21,7 @@ use std::process;
 /// What the commands are.
 const USAGE: &str = "\
 second list                      the listing of the trace on standard input
+second capacity                  the capacity report of the trace on standard input
 second make SEED [small]         a random trace
 second calls SEED                random direct calls with their answers and states
 second pick SEED COUNT EACH      seeds of small random traces that reach each refusal and branch EACH times
@@ -37,7 +39,8 @@ fn main() {
     let words: Vec<String> = std::env::args().skip(1).collect();
     let words: Vec<&str> = words.iter().map(|word| word.as_str()).collect();
     let done = match words.as_slice() {
-        ["list"] => list(),
+        ["list"] => list(listing::list),
+        ["capacity"] => list(report::report),
         ["make", seed] => number(seed).map_or_else(usage, |seed| make(seed, Size::Usual)),
         ["make", seed, "small"] => number(seed).map_or_else(usage, |seed| make(seed, Size::Small)),
         ["compare", program] => compare::compare(program, None),
@@ -81,13 +84,15 @@ fn number(word: &str) -> Option<u64> {
     word.parse().ok()
 }
 
-/// Lists the trace on standard input.
-fn list() -> io::Result<()> {
+/// Where a listing or a report goes.
+type Output = io::BufWriter<io::StdoutLock<'static>>;
+
+/// Lists the trace on standard input, or reports on it.
+fn list(told: fn(&[u8], &mut Output) -> io::Result<()>) -> io::Result<()> {
     let mut input = Vec::new();
     io::stdin().read_to_end(&mut input)?;
-    let stdout = io::stdout();
-    let mut out = io::BufWriter::new(stdout.lock());
-    listing::list(&input, &mut out)?;
+    let mut out = io::BufWriter::new(io::stdout().lock());
+    told(&input, &mut out)?;
     out.flush()
 }
 

@@ -106,6 +106,7 @@ impl Table {
             had: None,
             completed: false,
             arrived: false,
+            notes: None,
         }
     }
 }
@@ -207,6 +208,19 @@ pub enum Tick {
     Idle,
 }
 
+/// What the capacity report wants to know of a call.
+#[derive(Clone, PartialEq, Debug)]
+pub enum Note {
+    /// The thread became active.
+    Active(usize),
+    /// The thread became inactive, and so much of its capacity went to nobody.
+    Inactive(usize, i128),
+    /// The thread was granted a tick.
+    Granted(usize),
+    /// An idle tick, and what W is above the clock over the active threads of each application that it forgets.
+    Idle([i128; APPLICATION_LAST as usize + 1]),
+}
+
 /// The whole state of a schedule.
 #[derive(Clone, PartialEq, Debug)]
 pub struct Schedule {
@@ -219,6 +233,8 @@ pub struct Schedule {
     completed: bool,
     /// An arrival was accepted at this moment.
     arrived: bool,
+    /// What happened since the notes were taken last, where they are wanted.
+    notes: Option<Vec<Note>>,
 }
 
 impl Schedule {
@@ -249,6 +265,33 @@ impl Schedule {
             arrived: false,
             ..self.clone()
         }
+    }
+
+    /// From now on notes are kept.
+    pub fn keep_notes(&mut self) {
+        self.notes = Some(Vec::new());
+    }
+
+    /// The notes since they were taken last.
+    pub fn take_notes(&mut self) -> Vec<Note> {
+        self.notes.as_mut().map_or_else(Vec::new, std::mem::take)
+    }
+
+    fn note(&mut self, note: Note) {
+        if let Some(notes) = self.notes.as_mut() {
+            notes.push(note);
+        }
+    }
+
+    /// What W is above the clock, over the active threads of each application.
+    pub fn ahead(&self) -> [i128; APPLICATION_LAST as usize + 1] {
+        let mut sums = [0; APPLICATION_LAST as usize + 1];
+        for thread in &self.threads {
+            if let Some(amounts) = thread.active {
+                sums[thread.application] += amounts.w - thread.scaled(self.clock);
+            }
+        }
+        sums
     }
 
     /// The number of parts of the processor.
@@ -335,14 +378,15 @@ impl Schedule {
             hit(Branch::BecomesNonContending);
         } else {
             let gift = now - amounts.w;
-            self.hand_on(j, gift);
+            let lost = self.hand_on(j, gift);
             self.threads[j].active = None;
+            self.note(Note::Inactive(j, lost));
         }
         Ok(())
     }
 
-    /// Takes the freed amount of a completing thread from the W of its receiver, if there is one.
-    fn hand_on(&mut self, giver: usize, gift: i128) {
+    /// Takes the freed amount of a completing thread from the W of its receiver, if there is one; gives what is lost.
+    fn hand_on(&mut self, giver: usize, gift: i128) -> i128 {
         let from = &self.threads[giver];
         let mut receiver: Option<usize> = None;
         let mut passed_over = false;
@@ -396,8 +440,10 @@ impl Schedule {
                 }
                 let amounts = self.threads[j].active.as_mut().expect("a receiver is active");
                 amounts.w -= gift;
+                return 0;
             }
         }
+        gift
     }
 
     /// Removes the job at the head, sets its dedicated figure and checks demand 3 for it.
@@ -430,6 +476,9 @@ impl Schedule {
                 hit(Branch::LeavingAtArrival);
             }
             self.arrived = true;
+        }
+        if self.threads[j].active.is_none() {
+            self.note(Note::Active(j));
         }
         let clock = self.clock;
         let thread = &mut self.threads[j];
@@ -468,10 +517,13 @@ impl Schedule {
     fn leave(&mut self) -> bool {
         let clock = self.clock;
         let mut left = false;
-        for thread in &mut self.threads {
-            if thread.phase() == Phase::NonContending && thread.amounts().w <= thread.scaled(clock) {
+        for j in 0..self.threads.len() {
+            let thread = &mut self.threads[j];
+            let rest = thread.scaled(clock) - thread.amounts().w;
+            if thread.phase() == Phase::NonContending && rest >= 0 {
                 thread.active = None;
                 left = true;
+                self.note(Note::Inactive(j, rest));
             }
         }
         left
@@ -532,6 +584,7 @@ impl Schedule {
                     });
                 }
                 self.charge(chosen, &free);
+                self.note(Note::Granted(chosen));
                 Tick::Grant(chosen as u16)
             }
         };
@@ -574,6 +627,9 @@ impl Schedule {
         } else {
             Branch::IdlePlain
         });
+        if self.notes.is_some() {
+            self.note(Note::Idle(self.ahead()));
+        }
         for thread in &mut self.threads {
             thread.active = None;
         }

@@ -21,11 +21,13 @@ use Rattle.rules.specs.Charge.{benefits, charged, moved}
 use Rattle.rules.specs.Step.{Outcome, stepped}
 use Rattle.rules.specs.Run.{stateAfter, rowAfter, ran, passed}
 use Rattle.rules.specs.Calls.{Call, apply, refusalOf, after}
-use Rattle.rules.specs.History.{Happening, Finished, tickOf, ticksOf, history, account}
+use Rattle.rules.specs.History.{Happening, Finished, leavingTo, leavings, waking, retiring, tickOf, ticksOf, history, account}
+use Rattle.rules.specs.Stretches.{Over, lostIn, grantedIn, wakes, runs, rests, forgets, noted, activities, cutTo, ends, stretches, shareTo, total}
 use Rattle.rules.specs.Records.{Frame, Decoded, frameOf, decoded}
 use Rattle.rules.specs.Reading.{beforeTicks, ticksDue, eventRead, recordRead, read}
 use Rattle.rules.specs.Input.{readFrom, readInput}
 use Rattle.rules.specs.Listing.{bytes, digits, line, heading, tickLine, tickLines, ending, listFrom, listing}
+use Rattle.rules.specs.Report.{reportHeading, overLines, openLines, reportEnd, reportFrom, report}
 
 -- one thing that is seen; of a thread its phase, its jobs, W and E; of the moment its number, who had the tick just ended, and
 -- whether a completion and whether an arrival was accepted at it
@@ -43,6 +45,7 @@ pub data Seen : Type 0 where
   means : Decoded → Seen
   happened : List Happening → Seen
   finished : List Finished → Seen
+  ended : List Over → Seen
 
 pub data Example : Type 0 where
   example : (name : String) (given stated : List Seen) → Example
@@ -105,5 +108,5 @@ tableRefusal t = numberOf (tableSays t)
 
 -- what the rules give is what is stated, by computing with all the rules
 unfoldable pub Holds : Example → Type 0
-unfolding sumBy mapTo freeShare earliest loseAt headAnswer rowAnswer sharesTo rowsAnswer tableAnswer openedTo start opening gives completing afterCompletion completion leave gone arrivals.arrive arrival headOnly dropped fit fitted idled benefits charged moved stepped stateAfter rowAfter ran passed after tickOf ticksOf history account frameOf decoded beforeTicks ticksDue eventRead recordRead read readFrom readInput bytes digits line heading tickLine tickLines ending listFrom listing views refusals
+unfolding sumBy mapTo freeShare earliest loseAt headAnswer rowAnswer sharesTo rowsAnswer tableAnswer openedTo start opening gives completing afterCompletion completion leave gone arrivals.arrive arrival headOnly dropped fit fitted idled benefits charged moved stepped stateAfter rowAfter ran passed after leavingTo leavings waking retiring tickOf ticksOf history account lostIn grantedIn wakes runs rests forgets noted activities cutTo ends stretches shareTo total frameOf decoded beforeTicks ticksDue eventRead recordRead read readFrom readInput bytes digits line heading tickLine tickLines ending listFrom listing reportHeading overLines openLines reportEnd reportFrom report views refusals
 Holds (example name given stated) = given ≡ stated

@@ -3,3 +3,4 @@ pub mod Worked
 pub mod Marked
 pub mod Witness
 pub mod Telling
+pub mod Stretching

@@ -14,7 +14,7 @@ use Rattle.rules.specs.Arrival.{arrival}
 use Rattle.rules.specs.Step as steps
 use Rattle.rules.specs.Step.{Idle, stepped}
 use Rattle.rules.specs.Calls.{Call, complete, arrive, drop, step, run, after}
-use Rattle.rules.specs.History.{Happening, completed, arrived, dropped-to-head, granted, idle-tick, Job, Finished, noJobs, history, account}
+use Rattle.rules.specs.History.{Happening, completed, arrived, dropped-to-head, granted, idle-tick, became-active, Job, Finished, noJobs, history, account}
 use Rattle.marked.specs.Example.{number, amount, thread, answer, outcome, entries, whole, happened, finished, Example, example, Holds, row, tableOf, begin, tableSays, w, e, look, refusals, tableRefusal}
 use Rattle.marked.specs.Worked.{table, at2}
 
@@ -44,7 +44,9 @@ ends-at-its-deadline = example "ends-at-its-deadline"
     ∷ amount (pos (5 * (3 + 1))) ∷ [])
     (answer Done
     ∷ happened (
-    arrived 0 0
+    became-active 0 0
+    ∷ arrived 0 0
+    ∷ became-active 1 0
     ∷ arrived 1 0
     ∷ granted 0 0 (pos 20)
     ∷ granted 0 1 (pos 20)
@@ -86,7 +88,8 @@ abbrev figures : Example
 figures = example "figures"
     (happened (history (begin alone) three-jobs) ∷ finished (finishedOf alone 1 0 three-jobs) ∷ [])
     (happened (
-    arrived 0 0
+    became-active 0 0
+    ∷ arrived 0 0
     ∷ arrived 0 0
     ∷ arrived 0 0
     ∷ granted 0 0 (pos 2)
@@ -100,6 +103,7 @@ figures = example "figures"
     ∷ idle-tick 4
     ∷ idle-tick 5
     ∷ idle-tick 6
+    ∷ became-active 0 7
     ∷ arrived 0 7
     ∷ granted 0 7 (pos 9)
     ∷ granted 0 8 (pos 11)
@@ -119,7 +123,9 @@ all-calls =
 
 abbrev what-happened : List Happening
 what-happened =
-    arrived 0 0
+    became-active 0 0
+    ∷ arrived 0 0
+    ∷ became-active 1 0
     ∷ arrived 1 0
     ∷ granted 0 0 (pos 20)
     ∷ granted 0 1 (pos 20)
