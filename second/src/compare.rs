@@ -1,8 +1,9 @@
-//! Runs a program on random traces and compares its listings with those of this program, byte for byte.
+//! Runs a program on random traces and compares its listings or reports with those of this program, byte for byte.
 
 use crate::cover::{self, Counts};
 use crate::listing;
 use crate::random::Dice;
+use crate::report;
 use crate::stored::{self, STORED, WORKED};
 use crate::wide;
 use std::fs::{self, File};
@@ -16,22 +17,49 @@ const TRACES: u64 = 2_000;
 /// The folder for traces that are handed over as a file, and for those that differ.
 const FOLDER: &str = "target/compare";
 
+/// What a program writes for a trace: the listing, or the capacity report.
+#[derive(Clone, Copy)]
+pub enum Kind {
+    Listing,
+    Report,
+}
+
+impl Kind {
+    /// What this program writes.
+    fn write(self, trace: &[u8], out: &mut Vec<u8>) -> io::Result<()> {
+        match self {
+            Kind::Listing => listing::list(trace, out),
+            Kind::Report => report::report(trace, out),
+        }
+    }
+
+    /// What a line is of, and what it is called.
+    fn words(self) -> (&'static str, &'static str) {
+        match self {
+            Kind::Listing => ("ticks", "listing"),
+            Kind::Report => ("stretches", "report"),
+        }
+    }
+}
+
 /// What was compared.
 struct Figures {
+    kind: Kind,
     traces: u64,
     bytes: u64,
-    ticks: u64,
+    lines: u64,
     counts: Counts,
 }
 
 /// Compares the traces of the gate, which must reach every refusal and every branch, or those of a seed. The gate also
 /// has the worked trace cut at every byte.
-pub fn compare(program: &str, chosen: Option<(u64, u64)>) -> io::Result<()> {
+pub fn compare(kind: Kind, program: &str, chosen: Option<(u64, u64)>) -> io::Result<()> {
     fs::create_dir_all(FOLDER)?;
     let mut figures = Figures {
+        kind,
         traces: 0,
         bytes: 0,
-        ticks: 0,
+        lines: 0,
         counts: Counts::new(),
     };
     match chosen {
@@ -57,12 +85,15 @@ pub fn compare(program: &str, chosen: Option<(u64, u64)>) -> io::Result<()> {
     let refusals: Vec<String> = (1..=16)
         .map(|number| format!("{}: {}", number, figures.counts.refusal(number)))
         .collect();
+    let (lines, name) = kind.words();
     println!(
-        "random traces: {} of {} bytes, {} ticks listed, refused by number {}: every listing is that of the second program",
+        "random traces: {} of {} bytes, {} {} listed, refused by number {}: every {} is that of the second program",
         figures.traces,
         figures.bytes,
-        figures.ticks,
-        refusals.join(", ")
+        figures.lines,
+        lines,
+        refusals.join(", "),
+        name
     );
     Ok(())
 }
@@ -80,7 +111,7 @@ fn compare_seed(program: &str, seed: u64, count: u64, figures: &mut Figures) -> 
 fn compare_one(program: &str, name: &str, trace: &[u8], figures: &mut Figures) -> io::Result<()> {
     cover::take();
     let mut expected = Vec::new();
-    listing::list(trace, &mut expected)?;
+    figures.kind.write(trace, &mut expected)?;
     figures.counts.add(&cover::take());
     let mut dice = Dice::new(figures.traces);
     let (answer, broken) = run(program, trace, expected.len(), &mut dice)?;
@@ -89,12 +120,15 @@ fn compare_one(program: &str, name: &str, trace: &[u8], figures: &mut Figures) -
         fs::write(&kept, trace)?;
         println!("{}: the trace is kept in {}", name.replace('-', " "), kept);
         show_difference(&answer, &expected);
-        return Err(io::Error::other("the listings differ"));
+        return Err(io::Error::other(format!(
+            "the {}s differ",
+            figures.kind.words().1
+        )));
     }
     figures.traces += 1;
     figures.bytes += trace.len() as u64;
-    // The heading and the last line are no ticks.
-    figures.ticks += expected.iter().filter(|byte| **byte == b'\n').count() as u64 - 2;
+    // The heading and the last line are of no tick and no stretch.
+    figures.lines += expected.iter().filter(|byte| **byte == b'\n').count() as u64 - 2;
     Ok(())
 }
 

@@ -164,7 +164,12 @@ fn approach<W: Write, T: Teller<W>>(
 }
 
 /// Takes the ticks before a moment.
-fn run<W: Write, T: Teller<W>>(schedule: &mut Schedule, to: u32, teller: &mut T, out: &mut W) -> Result<(), Stop> {
+fn run<W: Write, T: Teller<W>>(
+    schedule: &mut Schedule,
+    to: u32,
+    teller: &mut T,
+    out: &mut W,
+) -> Result<(), Stop> {
     while schedule.clock() < to {
         let tick = schedule.clock();
         let answer = schedule.step()?;

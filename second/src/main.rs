@@ -25,9 +25,10 @@ second capacity                  the capacity report of the trace on standard in
 second make SEED [small]         a random trace
 second calls SEED                random direct calls with their answers and states
 second pick SEED COUNT EACH      seeds of small random traces that reach each refusal and branch EACH times
-second compare PROGRAM           compares the program's listings of the random traces of the gate with its own
-second compare PROGRAM SEED COUNT  the same for other random traces
-second stored FOLDER             writes the stored traces and their listings
+second compare KIND PROGRAM      compares the program's listings (or reports: KIND is listing or report) of the random traces of
+                                 the gate with its own
+second compare KIND PROGRAM SEED COUNT  the same for other random traces
+second stored FOLDER             writes the stored traces, their listings and their reports
 second show                      the trace on standard input in words
 second places                    the same, each record with the byte at which it starts
 second write                     the trace whose words are on standard input
@@ -43,9 +44,12 @@ fn main() {
         ["capacity"] => list(report::report),
         ["make", seed] => number(seed).map_or_else(usage, |seed| make(seed, Size::Usual)),
         ["make", seed, "small"] => number(seed).map_or_else(usage, |seed| make(seed, Size::Small)),
-        ["compare", program] => compare::compare(program, None),
-        ["compare", program, seed, count] => match (number(seed), number(count)) {
-            (Some(seed), Some(count)) => compare::compare(program, Some((seed, count))),
+        ["compare", kind, program] => match kind_of(kind) {
+            Some(kind) => compare::compare(kind, program, None),
+            None => usage(),
+        },
+        ["compare", kind, program, seed, count] => match (kind_of(kind), number(seed), number(count)) {
+            (Some(kind), Some(seed), Some(count)) => compare::compare(kind, program, Some((seed, count))),
             _ => usage(),
         },
         ["stored", folder] => stored::write(folder),
@@ -77,6 +81,15 @@ fn main() {
 fn usage() -> io::Result<()> {
     eprint!("{}", USAGE);
     process::exit(2);
+}
+
+/// What is compared.
+fn kind_of(word: &str) -> Option<compare::Kind> {
+    match word {
+        "listing" => Some(compare::Kind::Listing),
+        "report" => Some(compare::Kind::Report),
+        _ => None,
+    }
 }
 
 /// A number among the words of the command.

@@ -40,7 +40,10 @@ impl Report {
                     assert!(stretch.active.insert(thread), "it was inactive");
                 }
                 Note::Granted(thread) => {
-                    self.open[of(thread)].as_mut().expect("a thread that runs is active").granted += 1;
+                    self.open[of(thread)]
+                        .as_mut()
+                        .expect("a thread that runs is active")
+                        .granted += 1;
                 }
                 Note::Inactive(thread, lost) => {
                     let application = of(thread);
@@ -62,7 +65,14 @@ impl Report {
     }
 
     /// Writes the line of the stretch of an application that holds, if one does; it holds no longer.
-    fn close<W: Write>(&mut self, application: usize, to: u32, sum: i128, end: &str, out: &mut W) -> io::Result<()> {
+    fn close<W: Write>(
+        &mut self,
+        application: usize,
+        to: u32,
+        sum: i128,
+        end: &str,
+        out: &mut W,
+    ) -> io::Result<()> {
         match self.open[application].take() {
             None => Ok(()),
             Some(stretch) => writeln!(

@@ -1,6 +1,7 @@
 //! The stored traces: each with a name, what it shows, and its records in words.
 
 use crate::listing;
+use crate::report;
 use crate::words;
 use std::fs;
 use std::io;
@@ -261,15 +262,23 @@ pub fn listing(stored: &Stored) -> Vec<u8> {
     listing
 }
 
+/// The capacity report of a stored trace.
+pub fn report(stored: &Stored) -> Vec<u8> {
+    let mut report = Vec::new();
+    report::report(&trace(stored), &mut report).expect("writing to memory does not fail");
+    report
+}
+
 /// The page that says what each stored trace shows.
 pub fn page() -> String {
     let mut page = String::from(
         "\
 # Stored traces
 
-`NAME.trace` is a trace and `NAME.listing` its listing. `worked.listing` is copied from document 01; the other files, and
-this page, are written by the second program (`second stored traces`) from the list in `second/src/stored.rs`, which has
-the records in words. `tools/run-traces` runs the program on each, and `tools/show` writes one in words.
+`NAME.trace` is a trace, `NAME.listing` its listing and `NAME.report` its capacity report. `worked.listing` is copied from
+document 01; the other files, and this page, are written by the second program (`second stored traces`) from the list in
+`second/src/stored.rs`, which has the records in words. `tools/run-traces` runs both programs on each, and `tools/show`
+writes one in words.
 
 | Trace | Shows |
 |---|---|
@@ -281,13 +290,14 @@ the records in words. `tools/run-traces` runs the program on each, and `tools/sh
     page
 }
 
-/// Writes the traces, their listings and the page to a folder.
+/// Writes the traces, their listings and reports, and the page to a folder.
 pub fn write(folder: &str) -> io::Result<()> {
     let folder = Path::new(folder);
     fs::create_dir_all(folder)?;
     for stored in STORED {
         fs::write(folder.join(format!("{}.trace", stored.name)), trace(stored))?;
         fs::write(folder.join(format!("{}.listing", stored.name)), listing(stored))?;
+        fs::write(folder.join(format!("{}.report", stored.name)), report(stored))?;
     }
     fs::write(folder.join("README.md"), page())
 }

@@ -422,8 +422,11 @@ fn stored_traces_are_those_of_the_list() {
         assert!(kept == stored::trace(stored), "{}", trace);
         let listed_then = fs::read(format!("{}/{}", TRACES, listing)).expect("a stored listing");
         assert!(listed_then == crate::listing::listing(&kept), "{}", listing);
+        let report = format!("{}.report", stored.name);
+        let reported_then = fs::read(format!("{}/{}", TRACES, report)).expect("a stored report");
+        assert!(reported_then == stored::report(stored), "{}", report);
         assert!(
-            names.insert(trace) && names.insert(listing),
+            names.insert(trace) && names.insert(listing) && names.insert(report),
             "{} twice",
             stored.name
         );
@@ -450,6 +453,59 @@ fn the_worked_trace_is_that_of_the_document() {
         .expect("it is stored");
     assert_eq!(stored::trace(worked), bytes(&example()));
     assert_eq!(listed(&stored::trace(worked)), stored::WORKED_LISTING);
+}
+
+#[test]
+fn the_report_of_the_document() {
+    let mut report = Vec::new();
+    crate::report::report(&bytes(&example()), &mut report).expect("writing to memory does not fail");
+    let text = String::from_utf8(report).expect("plain text");
+    // request 8: "application 0 gives 5 x 6 = 10 x 2 + 10"
+    assert_eq!(
+        text,
+        "app from to granted lost share sum end\n0 0 6 2 10 30 0 over\n1 0 7 5 0 35 15 idle\nend 8\n"
+    );
+}
+
+#[test]
+fn every_stretch_is_accounted_for() {
+    // The sum is that of the state, the rest is counted: request 8 says how they stand to each other.
+    let mut ends = [0; 3];
+    let mut losses = 0;
+    for index in 0..3_000 {
+        let trace = wide::trace(8, index);
+        let mut report = Vec::new();
+        crate::report::report(&trace, &mut report).expect("writing to memory does not fail");
+        let text = String::from_utf8(report).expect("plain text");
+        for line in text.lines().skip(1) {
+            let words: Vec<&str> = line.split(' ').collect();
+            if words.len() != 8 {
+                continue;
+            }
+            let numbers: Vec<i128> = words[..7]
+                .iter()
+                .map(|word| word.parse().expect("a number"))
+                .collect();
+            let parts = i128::from(u16::from_le_bytes([trace[4], trace[5]]));
+            assert_eq!(
+                parts * numbers[3] + numbers[4] - numbers[5],
+                numbers[6],
+                "{}",
+                line
+            );
+            let end = ["over", "idle", "open"].iter().position(|word| *word == words[7]);
+            ends[end.expect("an end")] += 1;
+            losses += i32::from(numbers[4] > 0);
+            assert!(words[7] == "open" || numbers[1] < numbers[2], "{}", line);
+            assert!(words[7] != "over" || numbers[6] == 0, "{}", line);
+        }
+    }
+    assert!(
+        ends.iter().all(|count| *count > 100) && losses > 100,
+        "{:?} {}",
+        ends,
+        losses
+    );
 }
 
 #[test]

@@ -148,7 +148,7 @@ class Place:
     def random(self, program):
         """Which random trace is the first whose listing differs from that of the second program."""
         second = self.root / "target/second/release/second"
-        status, said = run([second, "compare", program, *RANDOM], self.folder, 60)
+        status, said = run([second, "compare", "listing", program, *RANDOM], self.folder, 60)
         if status == 0:
             return ""
         found = re.search(r"index (\d+)", said)
