@@ -1,17 +1,17 @@
-// The program in plain Rust, for comparison of speed alone: a trace on standard input, its listing on
-// standard output. The state is changed in place, input and output are buffered, digits are made by hand.
+// The programs in plain Rust, for comparison of speed alone: a trace on standard input, its listing, or with the
+// word `report` its capacity report, on standard output. The state is changed in place, input and output are buffered, digits are made by hand.
 #[allow(dead_code)]
 mod plain;
 
-use plain::State;
+use plain::{State, Watch};
 use std::fs::File;
 use std::io::{self, Read, Write};
 use std::os::fd::FromRawFd;
 
-// No record is longer than half of this, no line than 96 bytes.
+// No record is longer than half of this, no line than 128 bytes.
 const WINDOW: usize = 131_072;
 const ROOM: usize = 65_536;
-const LINE: usize = 96;
+const LINE: usize = 128;
 const CLOCK_END: u32 = 2_147_483_647;
 
 // The input, of which buffer[start..end] is at hand; `base` is the place of buffer[0] in the input.
@@ -245,15 +245,29 @@ fn table(input: &mut Input) -> Result<State, Stop> {
     Ok(State::begin(q, &rows))
 }
 
-// Runs and lists the ticks before a moment.
-fn run(s: &mut State, to: u32, out: &mut Output) -> io::Result<()> {
-    while s.clock() < to {
+// What is written of ticks and events.
+trait Tell: Watch {
+    fn begin(&mut self, s: &State);
+    fn tick(&mut self, s: &mut State, out: &mut Output) -> io::Result<()>;
+    fn event(&mut self, out: &mut Output) -> io::Result<()>;
+    fn end(&mut self, s: &State, out: &mut Output) -> io::Result<()>;
+}
+
+// The lines of the ticks.
+struct Lines;
+
+impl Watch for Lines {}
+
+impl Tell for Lines {
+    fn begin(&mut self, _: &State) {}
+
+    fn tick(&mut self, s: &mut State, out: &mut Output) -> io::Result<()> {
         out.room()?;
         out.number(s.clock() as u64);
         let had = s.step();
         if had == 65_535 {
             out.text(b" - - - -\n");
-            continue;
+            return Ok(());
         }
         let (app, e, w) = s.shown(had as usize);
         out.text(b" ");
@@ -265,13 +279,119 @@ fn run(s: &mut State, to: u32, out: &mut Output) -> io::Result<()> {
         out.text(b" ");
         out.signed(w);
         out.text(b"\n");
+        Ok(())
     }
-    Ok(())
+
+    fn event(&mut self, _: &mut Output) -> io::Result<()> {
+        Ok(())
+    }
+
+    fn end(&mut self, _: &State, _: &mut Output) -> io::Result<()> {
+        Ok(())
+    }
+}
+
+// A stretch that holds while some thread is active.
+#[derive(Clone, Copy, Default)]
+struct Stretch {
+    active: u32,
+    since: u32,
+    granted: u32,
+    lost: i64,
+}
+
+// The stretches of the applications, and those that have ended and are not yet written.
+struct Report {
+    q: i64,
+    shares: [i64; 16],
+    open: [Stretch; 16],
+    ended: Vec<(usize, u32, Stretch, &'static [u8])>,
+}
+
+impl Watch for Report {
+    fn awake(&mut self, app: usize, now: u32) {
+        let o = &mut self.open[app];
+        if o.active == 0 {
+            *o = Stretch { since: now, ..Stretch::default() };
+        }
+        o.active += 1;
+    }
+
+    fn asleep(&mut self, app: usize, now: u32, lost: i64) {
+        let o = &mut self.open[app];
+        o.active -= 1;
+        o.lost += lost;
+        if o.active == 0 {
+            self.ended.push((app, now, *o, b"over\n"));
+        }
+    }
+
+    fn granted(&mut self, app: usize) {
+        self.open[app].granted += 1;
+    }
+
+    fn idle(&mut self, now: u32) {
+        self.close(now, b"idle\n");
+    }
+}
+
+impl Report {
+    fn close(&mut self, now: u32, how: &'static [u8]) {
+        for app in 0..16 {
+            if self.open[app].active > 0 {
+                self.ended.push((app, now, self.open[app], how));
+                self.open[app].active = 0;
+            }
+        }
+    }
+
+    #[cold]
+    fn write(&mut self, out: &mut Output) -> io::Result<()> {
+        for (app, now, o, how) in self.ended.drain(..) {
+            out.room()?;
+            let share = self.shares[app] * (now - o.since) as i64;
+            let sum = self.q * o.granted as i64 - share + o.lost;
+            for n in [app as i64, o.since as i64, now as i64, o.granted as i64, o.lost, share, sum] {
+                out.signed(n);
+                out.text(b" ");
+            }
+            out.text(how);
+        }
+        Ok(())
+    }
+}
+
+impl Tell for Report {
+    fn begin(&mut self, s: &State) {
+        self.q = s.q() as i64;
+        for i in 0..s.count() {
+            let (share, app) = s.row(i);
+            self.shares[app] += share as i64;
+        }
+    }
+
+    fn tick(&mut self, s: &mut State, out: &mut Output) -> io::Result<()> {
+        s.step_watched(self);
+        self.event(out)
+    }
+
+    fn event(&mut self, out: &mut Output) -> io::Result<()> {
+        if self.ended.is_empty() {
+            return Ok(());
+        }
+        self.write(out)
+    }
+
+    fn end(&mut self, s: &State, out: &mut Output) -> io::Result<()> {
+        self.close(s.clock(), b"open\n");
+        self.write(out)
+    }
 }
 
 // The clock at the end of the input.
-fn play(input: &mut Input, out: &mut Output) -> Result<u32, Stop> {
+fn play<T: Tell>(input: &mut Input, tell: &mut T, out: &mut Output) -> Result<u32, Stop> {
     let mut s = table(input)?;
+    tell.begin(&s);
     while let Some((kind, b)) = record(input)? {
         if kind < 3 {
             return Err(Stop::Refused(16));
@@ -287,20 +407,22 @@ fn play(input: &mut Input, out: &mut Output) -> Result<u32, Stop> {
         if kind != 5 && i >= s.count() {
             return Err(Stop::Refused(8));
         }
-        if tick > s.clock() {
-            run(&mut s, tick, out)?;
+        while s.clock() < tick {
+            tell.tick(&mut s, out)?;
         }
         let number = match kind {
-            3 => s.arrive(i),
-            4 => s.complete(i),
+            3 => s.arrive(i, tell),
+            4 => s.complete(i, tell),
             5 => 0,
             _ => s.drop_waiting(i),
         };
         if number > 0 {
             return Err(Stop::Refused(number));
         }
+        tell.event(out)?;
         input.pass(kind);
     }
+    tell.end(&s, out)?;
     Ok(s.clock())
 }
 
@@ -309,8 +431,14 @@ fn main() -> io::Result<()> {
     let (from, to) = unsafe { (File::from_raw_fd(0), File::from_raw_fd(1)) };
     let mut input = Input { from, buffer: vec![0; WINDOW], start: 0, end: 0, base: 0, ended: false };
     let mut out = Output { to, buffer: vec![0; ROOM], used: 0 };
-    out.text(b"tick thread app deadline virtual\n");
-    let played = play(&mut input, &mut out);
+    let played = if std::env::args().nth(1).as_deref() == Some("report") {
+        out.text(b"app from to granted lost share sum end\n");
+        let mut report = Report { q: 0, shares: [0; 16], open: [Stretch::default(); 16], ended: Vec::new() };
+        play(&mut input, &mut report, &mut out)
+    } else {
+        out.text(b"tick thread app deadline virtual\n");
+        play(&mut input, &mut Lines, &mut out)
+    };
     out.room()?;
     match played {
         Ok(clock) => {

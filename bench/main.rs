@@ -74,7 +74,7 @@ fn measure(load: &Load) {
     let mut in_place = State::begin(Q, &table);
     for i in 0..load.threads {
         library = accepted(bollardine::arrive(library, i as u16));
-        in_place.arrive(i);
+        in_place.arrive(i, &mut ());
     }
     let mut by_value = in_place.clone();
     let (mut a, mut b, mut c) = (vec![0u16; ROW], vec![0u16; ROW], vec![0u16; ROW]);

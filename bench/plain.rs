@@ -28,6 +28,16 @@ pub struct State {
     closed: bool,
 }
 
+// Who is told what becomes of the threads of an application; `()` does not listen.
+pub trait Watch {
+    fn awake(&mut self, _app: usize, _now: u32) {}
+    fn asleep(&mut self, _app: usize, _now: u32, _lost: i64) {}
+    fn granted(&mut self, _app: usize) {}
+    fn idle(&mut self, _now: u32) {}
+}
+
+impl Watch for () {}
+
 const NOBODY: usize = 64;
 const MAX_JOBS: u32 = 65_535;
 const BLANK: Thread = Thread { app: 0, phase: Phase::Inactive, share: 0, period: 0, jobs: 0, w: 0, e: 0 };
@@ -60,14 +70,23 @@ impl State {
         (t.app, t.e, t.w)
     }
 
+    // The share and the application of a thread.
+    pub fn row(&self, i: usize) -> (u32, usize) {
+        (self.threads[i].share, self.threads[i].app as usize)
+    }
+
+    pub fn q(&self) -> u32 {
+        self.q
+    }
+
     // The refusal of an arrival, or 0.
     #[inline]
-    pub fn arrive(&mut self, i: usize) -> u8 {
+    pub fn arrive<W: Watch>(&mut self, i: usize, watch: &mut W) -> u8 {
         if self.threads[i].jobs == MAX_JOBS {
             return 11;
         }
         if !self.closed {
-            self.leave();
+            self.leave(watch);
             self.closed = true;
         }
         let now = self.clock as i64;
@@ -75,6 +94,7 @@ impl State {
         if t.phase != Phase::Contending {
             if t.phase == Phase::Inactive {
                 t.w = t.share as i64 * now;
+                watch.awake(t.app as usize, self.clock);
             }
             t.e = t.w + t.share as i64 * t.period as i64;
             t.phase = Phase::Contending;
@@ -84,7 +104,7 @@ impl State {
     }
 
     // The refusal of a completion, or 0.
-    pub fn complete(&mut self, i: usize) -> u8 {
+    pub fn complete<W: Watch>(&mut self, i: usize, watch: &mut W) -> u8 {
         if self.closed {
             return 10;
         }
@@ -102,13 +122,14 @@ impl State {
         } else {
             let from = *t;
             *t = Thread { phase: Phase::Inactive, w: 0, e: 0, ..from };
-            self.hand_on(&from, from.share as i64 * now - from.w);
+            let lost = self.hand_on(&from, from.share as i64 * now - from.w);
+            watch.asleep(from.app as usize, self.clock, lost);
         }
         0
     }
 
-    // Takes what a completion freed from the thread of its application that receives it, if there is one.
-    fn hand_on(&mut self, from: &Thread, amount: i64) {
+    // Takes what a completion freed from the thread of its application that receives it, if there is one; what is lost.
+    fn hand_on(&mut self, from: &Thread, amount: i64) -> i64 {
         let threads = &mut self.threads[..self.count];
         let mut best = NOBODY;
         for i in 0..threads.len() {
@@ -118,9 +139,11 @@ impl State {
                 best = i;
             }
         }
-        if best != NOBODY {
-            threads[best].w -= amount;
+        if best == NOBODY {
+            return amount;
         }
+        threads[best].w -= amount;
+        0
     }
 
     // A drop, which is never refused.
@@ -130,10 +153,11 @@ impl State {
         0
     }
 
-    fn leave(&mut self) {
+    fn leave<W: Watch>(&mut self, watch: &mut W) {
         let now = self.clock as i64;
         for t in self.threads[..self.count].iter_mut() {
             if t.phase == Phase::NonContending && t.w <= t.share as i64 * now {
+                watch.asleep(t.app as usize, self.clock, t.share as i64 * now - t.w);
                 *t = Thread { phase: Phase::Inactive, w: 0, e: 0, ..*t };
             }
         }
@@ -141,10 +165,14 @@ impl State {
 
     // One tick in place; the entry of the row.
     pub fn step(&mut self) -> u16 {
+        self.step_watched(&mut ())
+    }
+
+    pub fn step_watched<W: Watch>(&mut self, watch: &mut W) -> u16 {
         let q = self.q as i64;
         let n = self.count;
         if !self.closed {
-            self.leave();
+            self.leave(watch);
         }
         let threads = &mut self.threads[..n];
         let mut free = [0i64; 16];
@@ -169,12 +197,14 @@ impl State {
         self.closed = false;
         self.had = best;
         if best == NOBODY {
+            watch.idle(self.clock - 1);
             for t in threads.iter_mut() {
                 *t = Thread { phase: Phase::Inactive, w: 0, e: 0, ..*t };
             }
             return 65535;
         }
         let own = threads[best].app as usize & 15;
+        watch.granted(own);
         let mut first = [NOBODY; 16];
         for i in 0..n {
             if threads[i].phase != Phase::Inactive {

@@ -114,7 +114,7 @@ fn machine(folder: &str, name: &str, (q, rows): (u16, Rows), ticks: u32) -> io::
             if release[i] == u64::from(tick) {
                 let length = dice.about(apart * 4 * u64::from(rows[i].1) / (5 * shares));
                 w.event(ARRIVAL, tick, i)?;
-                assert!(s.arrive(i) == 0);
+                assert!(s.arrive(i, &mut ()) == 0);
                 left[i].push_back(length);
                 if dice.below(50) == 0 {
                     w.event(DROP, tick, i)?;
@@ -130,7 +130,7 @@ fn machine(folder: &str, name: &str, (q, rows): (u16, Rows), ticks: u32) -> io::
             if left[had][0] == 0 {
                 left[had].pop_front();
                 w.event(COMPLETION, tick + 1, had)?;
-                assert!(s.complete(had) == 0);
+                assert!(s.complete(had, &mut ()) == 0);
             }
         }
     }

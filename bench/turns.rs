@@ -1,8 +1,8 @@
 // Lists the traces of a folder with the program in plain Rust and with bollardine, in turns, the listing to /dev/null,
 // and prints the least processor time (user and system) of each over five turns and their ratio. Before that the two
-// listings of each trace are compared.
+// listings of each trace are compared. Then the same of the capacity reports.
 //
-// usage: turns FOLDER PLAIN BOLLARDINE
+// usage: turns FOLDER PLAIN BOLLARDINE CAPACITY
 use std::fs::File;
 use std::io::Read;
 use std::process::{exit, Child, Command, Stdio};
@@ -38,23 +38,26 @@ fn spent_by_children() -> f64 {
     (u.user[0] + u.system[0]) as f64 + (u.user[1] + u.system[1]) as f64 * 1e-6
 }
 
-fn started(program: &str, trace: &str, output: Stdio) -> Child {
+// A program and its words.
+type Called<'a> = (&'a str, &'a [&'a str]);
+
+fn started(program: Called, trace: &str, output: Stdio) -> Child {
     let input = File::open(trace).expect("a trace");
-    Command::new(program).stdin(input).stdout(output).spawn().expect("a program")
+    Command::new(program.0).args(program.1).stdin(input).stdout(output).spawn().expect("a program")
 }
 
-fn time(program: &str, trace: &str) -> f64 {
+fn time(program: Called, trace: &str) -> f64 {
     let before = spent_by_children();
     let ended = started(program, trace, Stdio::null()).wait().expect("it ends");
     if !ended.success() {
-        println!("{} fails on {}", program, trace);
+        println!("{} fails on {}", program.0, trace);
         exit(1);
     }
     spent_by_children() - before
 }
 
 // Ends unless both programs write the same; the number of bytes.
-fn compare(plain: &str, program: &str, trace: &str) -> usize {
+fn compare(plain: Called, program: Called, trace: &str) -> usize {
     let mut children = [plain, program].map(|p| started(p, trace, Stdio::piped()));
     let [mut a, mut b] = [0, 1].map(|i| children[i].stdout.take().expect("a pipe"));
     let (mut x, mut y) = (vec![0; 65_536], vec![0; 65_536]);
@@ -67,7 +70,7 @@ fn compare(plain: &str, program: &str, trace: &str) -> usize {
             b.read_exact(&mut y[..n]).is_ok() && x[..n] == y[..n]
         };
         if !same {
-            println!("the listings of {} differ after byte {}", trace, bytes);
+            println!("what is written of {} differs after byte {}", trace, bytes);
             exit(1);
         }
         bytes += n;
@@ -81,13 +84,9 @@ fn compare(plain: &str, program: &str, trace: &str) -> usize {
     bytes
 }
 
-fn main() {
-    let words: Vec<String> = std::env::args().skip(1).collect();
-    let [folder, plain, program] = words.as_slice() else {
-        eprintln!("turns FOLDER PLAIN BOLLARDINE");
-        exit(2);
-    };
-    println!("{:<52} {:>8} {:>10} {:>6} {:>6}", "listing a trace, seconds", "Rust", "bollardine", "ratio", "target");
+// Compares and measures two programs over all traces; whether there are ratios that are asked for.
+fn turns(what: &str, folder: &str, plain: Called, program: Called, asked: bool) {
+    println!("{:<52} {:>8} {:>10} {:>6} {:>6}", what, "Rust", "ours", "ratio", if asked { "target" } else { "" });
     for (name, what, target) in TRACES {
         let trace = format!("{}/{}.trace", folder, name);
         compare(plain, program, &trace);
@@ -96,6 +95,18 @@ fn main() {
             least_plain = least_plain.min(time(plain, &trace));
             least = least.min(time(program, &trace));
         }
+        let target = if asked { target.to_string() } else { String::new() };
         println!("{:<52} {:>8.3} {:>10.3} {:>6.2} {:>6}", what, least_plain, least, least_plain / least, target);
     }
+}
+
+fn main() {
+    let words: Vec<String> = std::env::args().skip(1).collect();
+    let [folder, plain, listing, report] = words.as_slice() else {
+        eprintln!("turns FOLDER PLAIN BOLLARDINE CAPACITY");
+        exit(2);
+    };
+    turns("listing a trace, seconds", folder, (plain, &[]), (listing, &[]), true);
+    println!();
+    turns("reporting on a trace, seconds", folder, (plain, &["report"]), (report, &[]), false);
 }
