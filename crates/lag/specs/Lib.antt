@@ -1,0 +1,5 @@
+pub mod Lag
+pub mod Signs
+pub mod Claimed
+pub mod Rows
+pub mod LagProved
