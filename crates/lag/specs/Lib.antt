@@ -3,3 +3,4 @@ pub mod Signs
 pub mod Claimed
 pub mod Rows
 pub mod LagProved
+pub mod Theorem2
