@@ -11,7 +11,7 @@ use Rattle.lists.specs.MapTo.{map-same}
 use Rattle.lists.specs.Sum.{sumBy, sum-none, sum-more, sum-le}
 use Rattle.rules.specs.Limits.{maxThreads}
 use Rattle.rules.specs.Threads.{Thread, State, blank, at}
-use Rattle.rules.specs.Table.{Table, Done, headAnswer, rowsAnswer, rowAt, sharesTo, tableAnswer, opened, start}
+use Rattle.rules.specs.Table.{Table, Done, headAnswer, rowsAnswer, rowAt, sharesTo, tableAnswer, meant, opened, start}
 use Rattle.rules.specs.Leaving.{leave, gone}
 use Rattle.rules.specs.Calls.{Call, after}
 use Rattle.rules.specs.Stretches.{shareTo, shareOf}
@@ -63,6 +63,14 @@ module _ (usual : ℕ) (t : Table) (ok : tableAnswer usual t ≡ Done) (cs : Lis
   pub share-is : (i : ℕ) → i < t .threads → at (s .threads) i .share ≡ rowAt (t .rows) i .share
   share-is i h = gone-keeps (λ (x : Thread). x .share) (λ t x. by-leaving (λ (y : Thread). y .share ≡ x .share) t x refl (λ _ _. refl)) (after (start usual t) cs) i
       ∙ calls-same cs (start usual t) .row i .1 ∙ ap (λ (x : Thread). x .share) (begun-at i h)
+
+  pub period-is : (i : ℕ) → i < t .threads → at (s .threads) i .period ≡ meant usual (rowAt (t .rows) i .period)
+  period-is i h = gone-keeps (λ (x : Thread). x .period) (λ t x. by-leaving (λ (y : Thread). y .period ≡ x .period) t x refl (λ _ _. refl)) (after (start usual t) cs) i
+      ∙ calls-same cs (start usual t) .row i .2 ∙ ap (λ (x : Thread). x .period) (begun-at i h)
+
+  pub q-is : s .q ≡ t .q
+  unfolding start
+  q-is = gone-beside (after (start usual t) cs) .q ∙ calls-same cs (start usual t) .q
 
   long : t .threads ≤ length (s .threads)
   long = omega (arith, few, left-good .rows .long)
