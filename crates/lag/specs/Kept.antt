@@ -23,7 +23,7 @@ use Rattle.rules.specs.Drop.{headOnly}
 use Rattle.rules.specs.Fitting.{fitIn, fitted, roomOf}
 use Rattle.rules.specs.Choice.{idled}
 use Rattle.rules.specs.Charge.{gains, benefited, charged, moved}
-use Rattle.rules.specs.History.{Happening, became-inactive, leaves, leaving, leavingTo, leavings, waking, retiring, fateOf, receiverIn}
+use Rattle.rules.specs.History.{Fate, Happening, became-inactive, leaves, leaving, leavingTo, leavings, waking, retiring, fateOf, receiverIn}
 use Rattle.rules.specs.Stretches.{Activity, lostAs, runs, rests, forgets}
 use Rattle.promises.specs.Cases.{by-test}
 use Rattle.promises.specs.Keep.{lose-at, lose-length, benefits-at, benefits-length}
@@ -160,50 +160,58 @@ module _ {i : ℕ} {c : Activity} {s : State} (k : Kept i c s) where
     held = at-upd {P = Held (s .q) (s .clock .0) c} headOnly (λ x h. jobs-held x h (headOnly x .jobs)) (s .threads) j i blank (k .held);
   }
 
-  -- ---- a completion by thread j
-  pub completed-kept : 0 < s .q → (j : ℕ) → (j ≡ i → T (contends (at (s .threads) j))) → Kept i (mine i c (retiring s j)) (afterCompletion s j)
+-- ---- a completion by thread j, which contends if it is i
+module _ {i : ℕ} {c : Activity} {s : State} (k : Kept i c s) (q-min : 0 < s .q) (j : ℕ) (own : j ≡ i → T (contends (at (s .threads) j))) where
+  abbrev t : ℕ
+  t = s .clock .0
+
+  abbrev xs : List Thread
+  xs = s .threads
+
+  abbrev x : Thread
+  x = at xs j
+
+  abbrev ys : List Thread
+  ys = set xs j (ends x)
+
+  abbrev to : ℕ
+  to = receiver (s .count) x ys
+
+  abbrev fate : Fate
+  fate = fateOf (receiverIn s j)
+
+  abbrev rested : Activity
+  rested = rests (lostAs fate (freed t x)) c
+
+  abbrev done : List Thread → State
+  done zs = record { threads = zs; count = s .count; had = s .had; q = s .q; clock = s .clock; completed = true; closed = s .closed }
+
+  -- it becomes y, and where it stands d, if it is i
+  put : (d : Activity) (y : Thread) → (j ≡ i → Held (s .q) t d y) → Held (s .q) t (cond (eqb j i) d c) (at (set xs j y) i)
+  put d y f = at-put (λ (b : Bool). Held (s .q) t (cond b d c)) xs j i y blank (k .among) f (k .held)
+
+  keep : (y : Thread) → (j ≡ i → Held (s .q) t c y) → Held (s .q) t c (at (set xs j y) i)
+  keep y f = at-put (λ (_ : Bool). Held (s .q) t c) xs j i y blank (k .among) f (k .held)
+
+  held-j : j ≡ i → Held (s .q) t c x
+  held-j e = rw e (k .held)
+
+  kept : (d : Activity) (zs : List Thread) → length zs ≡ length xs → Held (s .q) t d (at zs i) → Kept i d (done zs)
+  kept d zs l h = record { inside = k .inside; among = omega (arith, l, k .among); held = h }
+
+  -- what it frees goes to its receiver, or is lost
+  ends-kept : ltZ (scaled x t) (x .w .0) ≡ false → Kept i (cond (eqb j i) rested c) (done (loseAt (freed t x) ys to))
+  ends-kept e = let f = freed-nat t x e in
+      subst (λ (z : ℤ). Kept i (cond (eqb j i) rested c) (done (loseAt z ys to))) (sym (f .1))
+      (kept (cond (eqb j i) rested c) (loseAt (pos (f .0)) ys to) (lose-length (f .0) ys to ∙ length-set xs j _)
+      (lose-at (f .0) ys to (Held (s .q) t (cond (eqb j i) rested c)) (λ y h. lose-held y h (f .0)) i (put rested (ends x) (λ o. rest-held x (held-j o) _ 0))))
+
+  pub completed-kept : Kept i (mine i c (retiring s j)) (afterCompletion s j)
   unfolding afterCompletion retiring completing gives mine mineOf
-  completed-kept q-min j own = go (ltb 1 (x .jobs)) (ltZ (scaled x t) (x .w .0)) refl
+  completed-kept = go (ltb 1 (x .jobs)) (ltZ (scaled x t) (x .w .0)) refl
     where
-      t : ℕ
-      t = s .clock .0
-
-      xs : List Thread
-      xs = s .threads
-
-      x : Thread
-      x = at xs j
-
-      ys : List Thread
-      ys = set xs j (ends x)
-
-      to : ℕ
-      to = receiver (s .count) x ys
-
-      rested : Activity
-      rested = rests (lostAs (fateOf (receiverIn s j)) (freed t x)) c
-
-      after-it : List Thread → State
-      after-it zs = record { threads = zs; count = s .count; had = s .had; q = s .q; clock = s .clock; completed = true; closed = s .closed }
-
-      -- thread j becomes y, and d if that is i
-      put : (d : Activity) (y : Thread) → (j ≡ i → Held (s .q) t d y) → Held (s .q) t (cond (eqb j i) d c) (at (set xs j y) i)
-      put d y f = at-put (λ (b : Bool). Held (s .q) t (cond b d c)) xs j i y blank (k .among) f (k .held)
-
-      keep : (y : Thread) → (j ≡ i → Held (s .q) t c y) → Held (s .q) t c (at (set xs j y) i)
-      keep y f = at-put (λ (b : Bool). Held (s .q) t c) xs j i y blank (k .among) f (k .held)
-
-      mine-held : j ≡ i → Held (s .q) t c x
-      mine-held e = rw e (k .held)
-
-      kept : (d : Activity) (zs : List Thread) → length zs ≡ length xs → Held (s .q) t d (at zs i) → Kept i d (after-it zs)
-      kept d zs l h = record { inside = k .inside; among = omega (arith, l, k .among); held = h }
-
       go : (m l : Bool) → ltZ (scaled x t) (x .w .0) ≡ l
-          → Kept i (mine i c (cond m [] (cond l [] (became-inactive j t (freed t x) (fateOf (receiverIn s j)) ∷ [])))) (after-it (cond m (set xs j (goesOn x)) (cond l (set xs j (stays x)) (loseAt (freed t x) ys to))))
-      go true l e = kept c (set xs j (goesOn x)) (length-set xs j _) (keep (goesOn x) (λ o. goes-held x (mine-held o) q-min))
-      go false true e = kept c (set xs j (stays x)) (length-set xs j _) (keep (stays x) (λ o. stays-held x (mine-held o) (own o)))
-      go false false e = let f = freed-nat t x e in
-          subst (λ (z : ℤ). Kept i (cond (eqb j i) rested c) (after-it (loseAt z ys to))) (sym (f .1))
-          (kept (cond (eqb j i) rested c) (loseAt (pos (f .0)) ys to) (lose-length (f .0) ys to ∙ length-set xs j _)
-          (lose-at (f .0) ys to (Held (s .q) t (cond (eqb j i) rested c)) (λ y h. lose-held y h (f .0)) i (put rested (ends x) (λ o. rest-held x (mine-held o) _ 0))))
+          → Kept i (mine i c (cond m [] (cond l [] (became-inactive j t (freed t x) fate ∷ [])))) (done (cond m (set xs j (goesOn x)) (cond l (set xs j (stays x)) (loseAt (freed t x) ys to))))
+      go true l e = kept c (set xs j (goesOn x)) (length-set xs j _) (keep (goesOn x) (λ o. goes-held x (held-j o) q-min))
+      go false true e = kept c (set xs j (stays x)) (length-set xs j _) (keep (stays x) (λ o. stays-held x (held-j o) (own o)))
+      go false false e = ends-kept e

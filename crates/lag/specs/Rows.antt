@@ -52,7 +52,7 @@ module _ (usual : ℕ) (t : Table) (ok : tableAnswer usual t ≡ Done) (cs : Lis
   pub left-good : Steady s
   left-good = gone-good (after-good cs (start-good usual t ok)) .0
 
-  pub count-is : s .count ≡ t .threads
+  count-is : s .count ≡ t .threads
   unfolding start
   count-is = gone-beside (after (start usual t) cs) .count ∙ calls-same cs (start usual t) .count
 

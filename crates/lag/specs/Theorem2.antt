@@ -19,28 +19,19 @@ use lib.Dec.{lit<}
 use lib.IntN.{pos, negsuc, _+ℤ_, _*ℤ_}
 use lib.ListN.{replicate}
 use lib.Signed.{leZ-yes, _≤ℤ_}
-use Rattle.lists.specs.Sum.{sumBy}
-use Rattle.lists.specs.MapTo.{mapTo}
 use Rattle.rules.specs.Limits.{usualPeriod}
-use Rattle.rules.specs.Threads.{State, Inactive, Contending, blank, amt, freeShare, earliest, loseAt}
-use Rattle.rules.specs.Table.{Table, Done, headAnswer, rowAnswer, sharesTo, rowsAnswer, tableAnswer, openedTo, start, rowAt}
-use Rattle.rules.specs.Completion.{gives, completing, afterCompletion, completion}
-use Rattle.rules.specs.Leaving.{leave, gone}
-use Rattle.rules.specs.Arrival as arrivals
-use Rattle.rules.specs.Arrival.{arrival}
-use Rattle.rules.specs.Fitting.{fit, fitted}
-use Rattle.rules.specs.Choice.{idled}
-use Rattle.rules.specs.Charge.{benefits, charged, moved}
-use Rattle.rules.specs.Step.{stepped}
-use Rattle.rules.specs.Run.{stateAfter, rowAfter, ran}
+use Rattle.rules.specs.Threads.{State, Inactive, Contending, blank, amt}
+use Rattle.rules.specs.Table.{Table, Done, tableAnswer, start, rowAt}
+use Rattle.rules.specs.Run.{rowAfter}
 use Rattle.rules.specs.Calls.{Call, arrive, step, run, complete, after}
-use Rattle.rules.specs.History.{leavingTo, leavings, retiring, waking, tickOf, ticksOf, history, noJobs, account}
-use Rattle.rules.specs.Stretches.{wakes, runs, rests, forgets, noted, activities, shareTo, shareOf, total, aheadOf, appOf, grantedIn}
+use Rattle.rules.specs.History.{history, noJobs, account}
+use Rattle.rules.specs.Stretches.{shareOf, aheadOf, appOf, grantedIn}
 use Rattle.lag.specs.Lag.{EachBehind, DueBy, Until, left, stands, othersOf}
 use Rattle.lag.specs.LagProved.{lag-bound}
+use Rattle.lag.specs.Computed.{Computed}
 
 -- Q 10; application, share and period of three threads
-abbrev pub table : Table
+abbrev table : Table
 table = record {
   q = 10;
   threads = 3;
@@ -48,52 +39,52 @@ table = record {
 }
 
 -- an arrival of thread 0 at 0 and of thread 2 at 2; the ticks up to 18; tick 18 and the completion of thread 0 at 19
-abbrev pub up-to-2 : List Call
+abbrev up-to-2 : List Call
 up-to-2 = arrive 0 ∷ step ∷ step ∷ arrive 2 ∷ []
 
-abbrev pub up-to-18 : List Call
+abbrev up-to-18 : List Call
 up-to-18 = arrive 0 ∷ step ∷ step ∷ arrive 2 ∷ run 18 (replicate 16 0) ∷ []
 
-abbrev pub up-to-19 : List Call
+abbrev up-to-19 : List Call
 up-to-19 = arrive 0 ∷ step ∷ step ∷ arrive 2 ∷ run 18 (replicate 16 0) ∷ step ∷ complete 0 ∷ []
 
 abbrev begin : State
 begin = start usualPeriod table
 
 pub admitted : tableAnswer usualPeriod table ≡ Done
-unfolding headAnswer rowAnswer sharesTo rowsAnswer tableAnswer
+unfolding Computed
 admitted = refl
 
 -- who has the ticks: 0 and 1 thread 0, 2 to 17 thread 2, 18 thread 0
 pub ticks-0-1 : rowAfter 2 (after begin (arrive 0 ∷ [])) ≡ 0 ∷ 0 ∷ []
-unfolding sumBy mapTo freeShare earliest loseAt openedTo start leave gone arrivals.arrive arrival fit fitted idled benefits charged moved stepped stateAfter rowAfter after
+unfolding Computed
 ticks-0-1 = refl
 
 pub ticks-2-18 : rowAfter 17 (after begin up-to-2) ≡ replicate 16 2 ++ (0 ∷ [])
-unfolding sumBy mapTo freeShare earliest loseAt openedTo start leave gone arrivals.arrive arrival fit fitted idled benefits charged moved stepped stateAfter rowAfter after
+unfolding Computed
 ticks-2-18 = refl
 
 -- its one job arrives at 0, has 3 ticks and completes at 19
 pub the-job : account (table .q) 1 0 noJobs (history begin up-to-19) .finished ≡ record { job = record { arrival = 0; length = 3 }; completion = 19; figure = 30 } ∷ []
-unfolding sumBy mapTo freeShare earliest loseAt openedTo start gives completing afterCompletion completion leave gone arrivals.arrive arrival fit fitted idled benefits charged moved stepped stateAfter rowAfter ran after leavingTo leavings retiring waking tickOf ticksOf history account
+unfolding Computed
 the-job = refl
 
 -- .. and the application has no other tick by then; thread 1 never arrives
 pub all-its-ticks : grantedIn (appOf table) 0 (history begin up-to-19) ≡ 3
-unfolding sumBy mapTo freeShare earliest loseAt openedTo start gives completing afterCompletion completion leave gone arrivals.arrive arrival fit fitted idled benefits charged moved stepped stateAfter rowAfter ran after leavingTo leavings retiring waking tickOf ticksOf history grantedIn
+unfolding Computed
 all-its-ticks = refl
 
 -- the capacity of the application, and its greatest period
 pub capacity-is : shareOf 0 table ≡ 4
-unfolding shareTo
+unfolding Computed
 capacity-is = refl
 
-abbrev pub greatest : ℕ
+abbrev greatest : ℕ
 greatest = max (rowAt (table .rows) 0 .period) (rowAt (table .rows) 1 .period)
 
 -- 19 is more than the greatest period after 7.5 = 10 × 3 / 4, times 4: more than the theorem allows
 pub too-late : table .q * 3 + shareOf 0 table * greatest < shareOf 0 table * 19
-unfolding shareTo
+unfolding Computed
 too-late = lit< tt
 
 -- ---- what is promised instead, at the moment 18, after 2 of the 3 ticks
@@ -113,21 +104,21 @@ at-18 = record {
 }
 
 pub comes-to : left usualPeriod table up-to-18 ≡ at-18
-unfolding sumBy mapTo freeShare earliest loseAt openedTo start leave gone arrivals.arrive arrival fit fitted idled benefits charged moved stepped stateAfter rowAfter ran after
+unfolding Computed
 comes-to = refl
 
 -- the application is 52 behind, which is 4 × 18 − 10 × 2, and nothing is lost
 pub behind-by : aheadOf 0 at-18 ≡ negsuc 51
-unfolding total
+unfolding Computed
 behind-by = refl
 
 pub stands-so : stands usualPeriod table up-to-18 0 ≡ record { active = 1; stretch = record { since = record { 0 = 0 }; granted = 2; lost = amt (pos 0) } }
-unfolding sumBy mapTo freeShare earliest loseAt openedTo start leave gone arrivals.arrive arrival fit fitted idled benefits charged moved stepped stateAfter rowAfter ran after leavingTo leavings waking tickOf ticksOf history wakes runs rests forgets noted activities
+unfolding Computed
 stands-so = refl
 
 -- the others' share of the time left until 30, the deadline of thread 0, which waits and is behind: 6 × (30 − 18)
 pub others-share : othersOf 0 table * (30 - 1 * 18) ≡ 72
-unfolding sharesTo shareTo
+unfolding Computed
 others-share = refl
 
 latest : EachBehind 0 at-18 (DueBy 1 30)
