@@ -54,15 +54,19 @@ module _ (usual : ℕ) (t : Table) (cs : List Call) where
     pub ahead : k * moment ≤ e
     pub latest : EachBehind a left (DueBy k e)
 
+  -- k × U_A × elapsed ≤ k × (Q × granted + lost) + (U − U_A) × (e − k × t), of the stretch that holds
+  abbrev pub Capacity : (a k e : ℕ) → Type 0
+  Capacity a k e =
+      pos (k * (shareOf a t * elapsed moment (stands a .stretch)))
+      ≤ℤ (pos k *ℤ (pos (t .q * stands a .stretch .granted) +ℤ stands a .stretch .lost .0) +ℤ pos (othersOf a t * (e - k * moment)))
+
   pub record LagBound : Type 0 where
     -- the sum over its active threads of W − u × t, times k, is at least − (U − U_A) × (e − k × t)
     pub lag : (a k e : ℕ) → Until a k e → pos 0 ≤ℤ (pos k *ℤ aheadOf a left +ℤ pos (othersOf a t * (e - k * moment)))
     -- "If none is behind, not at all."
     pub none-behind : (a : ℕ) → EachBehind a left (λ _. ⊥) → pos 0 ≤ℤ aheadOf a left
-    -- with Item 8's equation, while a stretch holds: k × U_A × elapsed ≤ k × (Q × granted + lost) + (U − U_A) × (e − k × t)
-    pub capacity : (a k e : ℕ) → Until a k e → 0 < stands a .active → Balanced usual t cs a left (stands a)
-        → pos (k * (shareOf a t * elapsed moment (stands a .stretch)))
-        ≤ℤ (pos k *ℤ (pos (t .q * stands a .stretch .granted) +ℤ stands a .stretch .lost .0) +ℤ pos (othersOf a t * (e - k * moment)))
+    -- .. with Item 8's equation, while a stretch holds
+    pub capacity : (a k e : ℕ) → Until a k e → 0 < stands a .active → Balanced usual t cs a left (stands a) → Capacity a k e
 
 -- for every admitted table and every sequence of calls from a fresh start, refused ones among them
 abbrev pub Promised : Type 0
