@@ -1,0 +1,14 @@
+pub mod Lag
+pub mod Signs
+pub mod Claimed
+pub mod Rows
+pub mod LagProved
+pub mod Own
+pub mod Mine
+pub mod Held
+pub mod Kept
+pub mod Along
+pub mod OwnProved
+pub mod Computed
+pub mod Theorem2
+pub mod Witness
