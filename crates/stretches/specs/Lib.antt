@@ -5,3 +5,5 @@ pub mod Stand
 pub mod Figures
 pub mod Goes
 pub mod Changes
+pub mod Puts
+pub mod Leavings
