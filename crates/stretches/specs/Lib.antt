@@ -7,3 +7,4 @@ pub mod Goes
 pub mod Changes
 pub mod Puts
 pub mod Leavings
+pub mod Events
