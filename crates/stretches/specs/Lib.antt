@@ -8,3 +8,4 @@ pub mod Changes
 pub mod Puts
 pub mod Leavings
 pub mod Events
+pub mod Benefits
