@@ -9,3 +9,5 @@ pub mod Puts
 pub mod Leavings
 pub mod Events
 pub mod Benefits
+pub mod Shares
+pub mod Ticks

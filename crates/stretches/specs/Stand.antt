@@ -93,15 +93,12 @@ module _ {q share t n u d : ℕ} {c : Activity} (s : Stands q share t n u d c) w
   }
 
   -- an idle tick
-  pub stand-forgets : {u' d' : ℕ} → Stands q share (t + 1) 0 u' d' (forgets c)
+  pub stand-forgets : {n' u' d' : ℕ} → n' ≡ 0 → Stands q share (t + 1) n' u' d' (forgets c)
   unfolding forgets
-  stand-forgets = record {
-    active = refl;
+  stand-forgets e = record {
+    active = omega arith;
     since = omega (arith, s .since);
     whole = s .whole;
-    equal = λ h. absurd (no h);
+    equal = λ h. absurd (omega arith);
     small = omega (arith, s .small);
   }
-    where
-      no : 0 < 0 → ⊥
-      no h = omega arith
