@@ -11,3 +11,4 @@ pub mod Events
 pub mod Benefits
 pub mod Shares
 pub mod Ticks
+pub mod Calls

@@ -88,7 +88,7 @@ goes-idle {t} s {cs} j k = goes-one (idle-tick j) (record {
 }) (cut-evens t j cs (length cs)) tt
 
 -- ---- a tick of thread c
-runs-active : (p : Phase) → T (isContending p) → not (isInactive p) ≡ true
+pub runs-active : (p : Phase) → T (isContending p) → not (isInactive p) ≡ true
 runs-active Inactive e = absurd e
 runs-active Contending e = refl
 runs-active NonContending e = refl
