@@ -27,7 +27,7 @@ use Rattle.stretches.specs.Figures.{adds-none}
 use Rattle.stretches.specs.Puts.{tied-like, put-other, lose-shifts}
 
 -- a sum of nothing
-sum-zero : {A : Type 0} (f : A → ℕ) (n : ℕ) (xs : List A) (d : A) → ((i : ℕ) → i < n → f (getD xs i d) ≡ 0) → sumBy f (take n xs) ≡ 0
+pub sum-zero : {A : Type 0} (f : A → ℕ) (n : ℕ) (xs : List A) (d : A) → ((i : ℕ) → i < n → f (getD xs i d) ≡ 0) → sumBy f (take n xs) ≡ 0
 unfolding sumBy
 sum-zero f zero xs d z = refl
 sum-zero f (suc n) [] d z = refl

@@ -12,3 +12,5 @@ pub mod Benefits
 pub mod Shares
 pub mod Ticks
 pub mod Calls
+pub mod Start
+pub mod Balance
