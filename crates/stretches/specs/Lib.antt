@@ -14,3 +14,5 @@ pub mod Ticks
 pub mod Calls
 pub mod Start
 pub mod Balance
+pub mod Counts
+pub mod Counted
