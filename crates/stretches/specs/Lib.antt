@@ -16,3 +16,4 @@ pub mod Start
 pub mod Balance
 pub mod Counts
 pub mod Counted
+pub mod Proved

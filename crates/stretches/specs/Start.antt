@@ -19,7 +19,7 @@ use Rattle.stretches.specs.Standing.{Tied, Kept}
 use Rattle.stretches.specs.Benefits.{sum-zero}
 use Rattle.stretches.specs.Ticks.{low-all}
 
-quiet-at : (n a : ℕ) → activityAt (replicate n quiet) a ≡ quiet
+pub quiet-at : (n a : ℕ) → activityAt (replicate n quiet) a ≡ quiet
 quiet-at zero a = refl
 quiet-at (suc n) zero = refl
 quiet-at (suc n) (suc a) = quiet-at n a
