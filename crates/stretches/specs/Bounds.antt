@@ -2,12 +2,14 @@
 use mathlib.Core.Path.{_≡_}
 use mathlib.Core.Bool.{cond}
 use mathlib.Core.List.{List, [], _∷_}
-use Prim.Native.Nat.{ℕ, zero, suc, _+_, _*_, _-_, _^_, _≤_, _<_}
+use Prim.Native.Nat.{ℕ, zero, suc, _*_, _^_, _≤_, _<_}
 use native.Mathlib.Nat.{mul-le-mul}
 use native.Mathlib.Omega.{arith}
 use lib.IntN.{ℤ, pos, _+ℤ_, _-ℤ_}
 use lib.ListN.{take}
-use Rattle.integers.specs.Parts.{up, dn, Sum, add-parts, Diff, sub-parts}
+use mir.Syntax.{w64}
+use mir.Val.{SFits}
+use Rattle.integers.specs.Parts.{up, dn, Sum, add-parts, Diff, sub-parts, sfits-parts}
 use Rattle.lists.specs.Sum.{sumBy}
 use Rattle.rules.specs.Limits.{maxQ, apps, clockEnd}
 use Rattle.rules.specs.Threads.{Thread, activeIn}
@@ -27,7 +29,7 @@ ones-le a zero xs = omega arith
 ones-le a (suc n) [] = omega arith
 ones-le a (suc n) (x ∷ xs) = omega (arith, one-le a x, ones-le a n xs)
 
--- what is in range of the application a, which stands at c, at the moment now
+-- what is in range of an application, which stands at c, at the moment now
 pub record InRange (q share now : ℕ) (c : Activity) : Type 0 where
   pub active-max : c .active ≤ 64
   pub since-max : c .stretch .since .0 ≤ now
@@ -76,3 +78,17 @@ module _ {t : Table} {q m now : ℕ} {xs : List Thread} {cs : List Activity} (h 
 
       both : Sum ahead (c .stretch .lost .0) (ahead +ℤ c .stretch .lost .0)
       both = add-parts ahead (c .stretch .lost .0)
+
+-- .. and so it fits into 64 bits
+module _ {q share now : ℕ} {c : Activity} (r : InRange q share now c) where
+  pub lost-fits : SFits w64 (c .stretch .lost .0)
+  lost-fits = sfits-parts w64 _ (omega (arith, r .lost-max)) (omega (arith, r .lost-min))
+
+  pub balance-fits : SFits w64 (balance q share now (c .stretch))
+  balance-fits = sfits-parts w64 _ (omega (arith, r .balance-up)) (omega (arith, r .balance-dn))
+
+  -- without what is lost
+  pub use-fits : SFits w64 (pos (q * c .stretch .granted) -ℤ pos (share * elapsed now (c .stretch)))
+  use-fits =
+      let d = sub-parts (pos (q * c .stretch .granted)) (pos (share * elapsed now (c .stretch))) in
+      sfits-parts w64 _ (omega (arith, d, r .given-max)) (omega (arith, d, r .capacity-max))

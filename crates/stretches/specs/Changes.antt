@@ -1,7 +1,7 @@
 -- The threads of a table change while the clock stands: what that does to where the applications stand.
 use mathlib.Core.Path.{_≡_, refl}
 use mathlib.Core.List.{List, [], _∷_}
-use Prim.Native.Nat.{ℕ, _+_, _*_, _-_, _≤_, _<_}
+use Prim.Native.Nat.{ℕ, _+_, _*_, _-_, _<_}
 use native.Mathlib.Nat.{mul-le-mul-right}
 use native.Mathlib.Omega.{arith}
 use borrow.Author.Tests.{eqb-true}
@@ -15,10 +15,10 @@ use Rattle.rules.specs.Limits.{apps}
 use Rattle.rules.specs.Threads.{Thread}
 use Rattle.rules.specs.Table.{Table}
 use Rattle.rules.specs.History.{Fate, became-active, became-inactive}
-use Rattle.rules.specs.Stretches.{Activity, activityAt, wakes, rests, noted, Over, ends, overAt, elapsed, lostAs, appOf, shareOf}
+use Rattle.rules.specs.Stretches.{Activity, activityAt, wakes, rests, noted, ends, overAt, elapsed, lostAs, appOf, shareOf}
 use Rattle.promises.specs.Cases.{by-test}
 use Rattle.stretches.specs.Item8.{one, Even}
-use Rattle.stretches.specs.Standing.{ups, downs, Stands, StandsIn, Tied, Low, Held}
+use Rattle.stretches.specs.Standing.{ups, downs, StandsIn, Tied, Low, Held}
 use Rattle.stretches.specs.Stand.{stand-same, stand-wakes, rests-equal, stand-rests}
 use Rattle.stretches.specs.Figures.{none-active, ups-low}
 use Rattle.stretches.specs.Goes.{Goes, goes-one, held-set}
@@ -83,7 +83,7 @@ module _ {t : Table} {q m now : ℕ} {xs : List Thread} {cs : List Activity} (h 
       last : sumBy (one b) (take m ys) ≡ 0 → shareOf b t * elapsed now (c .stretch) ≡ q * c .stretch .granted + up (c .stretch .lost .0 +ℤ pos g)
       last e = let k = none-active b now (take m ys) e in omega (arith, rests-equal s _ _ _ g (r .ones) (r .amounts), k .0, k .1)
 
-      pub evens : All (Even t) (overAt now b (rests (pos g) c))
+      evens : All (Even t) (overAt now b (rests (pos g) c))
       unfolding rests
       evens = by-test (All (Even t)) (eqb (c .active - 1) 0) (λ e. more (λ _. even (eqb-true (c .active - 1) 0 e)) none) (λ _. none)
         where

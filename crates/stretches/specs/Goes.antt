@@ -5,7 +5,6 @@ use mathlib.Core.List.{List, [], _∷_, _++_}
 use Prim.Native.Nat.{ℕ, _<_}
 use native.Mathlib.Decide.{ℕ-discrete}
 use native.Mathlib.Omega.{arith}
-use lib.IntN.{ℤ}
 use lib.ListN.{length, take, set, length-set}
 use lib.Seq.{getD-set-same, getD-set-other}
 use Rattle.lists.specs.All.{All, none, more, all-append}
@@ -18,10 +17,10 @@ use Rattle.stretches.specs.Item8.{Even}
 use Rattle.stretches.specs.Standing.{StandsIn, Tied, Low, Held}
 
 -- ---- a happening comes where it can: the application of thread i is known, and some thread of it is active
-abbrev pub Known : (ℕ → ℕ) → List Activity → ℕ → Type 0
+abbrev Known : (ℕ → ℕ) → List Activity → ℕ → Type 0
 Known app cs i = app i < length cs
 
-abbrev pub Holds : (ℕ → ℕ) → List Activity → ℕ → Type 0
+abbrev Holds : (ℕ → ℕ) → List Activity → ℕ → Type 0
 Holds app cs i = Known app cs i × (0 < activityAt cs (app i) .active)
 
 abbrev pub Suits : (ℕ → ℕ) → List Activity → Happening → Type 0

@@ -2,12 +2,11 @@
 use mathlib.Core.Path.{_≡_, refl, sym, ap, _∙_, subst}
 use mathlib.Core.Bool.{Bool, true, false, not, cond, _&&_}
 use mathlib.Core.List.{List, [], _∷_}
-use Prim.Native.Nat.{ℕ, zero, suc, _+_, _≤_, _<_}
+use Prim.Native.Nat.{ℕ, zero, suc, _≤_, _<_}
 use native.Mathlib.Numerals.{add-one}
 use native.Mathlib.Omega.{arith}
-use lib.IntN.{ℤ}
 use lib.Signed.{ltZ}
-use lib.ListN.{length, take, set}
+use lib.ListN.{length, set}
 use Rattle.lists.specs.MapTo.{mapTo, map-at, map-more}
 use Rattle.lists.specs.All.{all-at, all-set}
 use Rattle.rules.specs.Threads.{Thread, State, Phase, Inactive, Contending, NonContending, withRows, blank, at, scaled, idle, isInactive, isNon}
@@ -16,7 +15,7 @@ use Rattle.rules.specs.Leaving.{leave, gone}
 use Rattle.rules.specs.Completion.{freed}
 use Rattle.rules.specs.History.{Happening, left, became-inactive, leaving, leavingTo, leavings}
 use Rattle.rules.specs.Stretches.{Activity, activities, appOf}
-use Rattle.promises.specs.Cases.{by-test, true-false}
+use Rattle.promises.specs.Cases.{true-false}
 use Rattle.promises.specs.Events.{freed-nat}
 use Rattle.stretches.specs.Standing.{Low, Held, Kept}
 use Rattle.stretches.specs.Goes.{Goes, goes-nowhere, goes-on}
@@ -47,7 +46,7 @@ module _ {t : Table} {q m now : ℕ} {xs : List Thread} {cs : List Activity} (h 
       (λ a. put-other (h .tied) i inside (idle x) refl refl a now)
       (f .0) (put-rests (h .tied) i inside (idle x) refl refl now (f .0) (non-active (x .phase) n) refl (f .2)) (freed now x) left (f .1)
 
-  pub goes-leaving : Goes t q m now (set xs i (leave now x)) cs (leaving now i x)
+  goes-leaving : Goes t q m now (set xs i (leave now x)) cs (leaving now i x)
   unfolding leave
   goes-leaving = go (isNon (x .phase)) (ltZ (scaled x now) (x .w .0)) refl refl
     where

@@ -1,9 +1,8 @@
 -- Item 8 holds, from what every call keeps.
-use mathlib.Core.Path.{_≡_, sym, ap, _∙_, subst}
+use mathlib.Core.Path.{_≡_, sym, _∙_, subst}
 use mathlib.Core.List.{List, _++_}
 use Prim.Native.Nat.{ℕ, _<_}
 use native.Mathlib.Omega.{arith}
-use lib.IntN.{_+ℤ_}
 use lib.ListN.{length-replicate}
 use Rattle.rules.specs.Limits.{apps}
 use Rattle.rules.specs.Table.{Table, Done, tableAnswer, start}
