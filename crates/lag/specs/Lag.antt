@@ -11,13 +11,14 @@ use Prim.Native.Nat.{ℕ, _*_, _-_, _≤_, _<_}
 use lib.Dec.{T}
 use lib.IntN.{pos, _+ℤ_, _*ℤ_}
 use lib.Signed.{_≤ℤ_, _<ℤ_}
+use Rattle.rules.specs.Limits.{apps}
 use Rattle.rules.specs.Threads.{Thread, State, at, scaled, contends}
 use Rattle.rules.specs.Table.{Table, Done, sharesTo, tableAnswer}
 use Rattle.rules.specs.Leaving.{gone}
 use Rattle.rules.specs.Calls.{Call}
 use Rattle.rules.specs.History.{leavings}
 use Rattle.rules.specs.Stretches.{Activity, elapsed, shareOf, aheadOf}
-use Rattle.stretches.specs.Item8.{now, past, standing, Balanced}
+use Rattle.stretches.specs.Item8.{now, past, standing}
 
 -- "behind": W < u × t
 abbrev pub Behind : ℕ → Thread → Type 0
@@ -66,7 +67,7 @@ module _ (usual : ℕ) (t : Table) (cs : List Call) where
     -- "If none is behind, not at all."
     pub none-behind : (a : ℕ) → EachBehind a left (λ _. ⊥) → pos 0 ≤ℤ aheadOf a left
     -- .. with Item 8's equation, while a stretch holds
-    pub capacity : (a k e : ℕ) → Until a k e → 0 < stands a .active → Balanced usual t cs a left (stands a) → Capacity a k e
+    pub capacity : (a k e : ℕ) → a < apps → Until a k e → 0 < stands a .active → Capacity a k e
 
 -- for every admitted table and every sequence of calls from a fresh start, refused ones among them
 abbrev pub Promised : Type 0

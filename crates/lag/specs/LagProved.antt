@@ -1,7 +1,7 @@
 -- The lag bound holds, from what holds of every given state.
 use mathlib.Core.Path.{_≡_, ap}
 use mathlib.Core.List.{List}
-use Prim.Native.Nat.{ℕ, _+_, _*_, _-_, _≤_, _<_}
+use Prim.Native.Nat.{ℕ, _+_, _*_, _-_, _≤_}
 use native.Mathlib.Omega.{arith}
 use lib.IntN.{ℤ, pos, _+ℤ_, _-ℤ_, _*ℤ_}
 use lib.Signed.{_≤ℤ_}
@@ -9,7 +9,6 @@ use lib.ListN.{take}
 use Rattle.integers.specs.Parts.{up, dn, add-parts, sub-parts, parts-le}
 use Rattle.lists.specs.Sum.{sumBy}
 use Rattle.lists.specs.All.{All, all-at, all-of}
-use Rattle.rules.specs.Limits.{apps}
 use Rattle.rules.specs.Threads.{State, blank}
 use Rattle.rules.specs.Table.{Table, Done, sharesTo, tableAnswer}
 use Rattle.rules.specs.Calls.{Call}
@@ -19,8 +18,8 @@ use Rattle.promises.specs.Keep.{inside}
 use Rattle.promises.specs.Begin.{start-good}
 use Rattle.promises.specs.Ready.{gone-good}
 use Rattle.promises.specs.Always.{after-good}
-use Rattle.stretches.specs.Item8 as item8
-use Rattle.lag.specs.Lag.{Capacity, EachBehind, othersOf, left, moment, stands, Until, Promised}
+use Rattle.stretches.specs.Proved.{item-8}
+use Rattle.lag.specs.Lag.{EachBehind, othersOf, left, moment, stands, Until, Promised}
 use Rattle.lag.specs.Signs.{times-up, times-dn, total-parts}
 use Rattle.lag.specs.Claimed.{Counts, all-cover}
 use Rattle.lag.specs.Rows.{left-good, all-shares, own-shares, own-within}
@@ -91,7 +90,7 @@ pub lag-bound : Promised
 lag-bound usual t ok cs = record {
   lag = lag-is usual t ok cs;
   none-behind = none-is usual t ok cs;
-  capacity = λ a k e u h b. with-balance k (t .q * c a .granted) (shareOf a t * elapsed m (c a)) (othersOf a t * (e - k * m)) (c a .lost .0) (aheadOf a (left usual t cs)) (b h) (bound usual t ok cs a k e u);
+  capacity = λ a k e l u h. with-balance k (t .q * c a .granted) (shareOf a t * elapsed m (c a)) (othersOf a t * (e - k * m)) (c a .lost .0) (aheadOf a (left usual t cs)) (item-8 usual t ok cs .after-leaving a l h) (bound usual t ok cs a k e u);
 }
   where
     m : ℕ
@@ -99,8 +98,3 @@ lag-bound usual t ok cs = record {
 
     c : ℕ → Stretch
     c a = stands usual t cs a .stretch
-
--- the capacity that an application had, once Item 8 is shown
-pub with-item-8 : item8.Promised → (usual : ℕ) (t : Table) → tableAnswer usual t ≡ Done → (cs : List Call) (a k e : ℕ) → a < apps → Until usual t cs a k e
-    → 0 < stands usual t cs a .active → Capacity usual t cs a k e
-with-item-8 shown usual t ok cs a k e l u h = lag-bound usual t ok cs .capacity a k e u h (shown usual t ok cs .after-leaving a l)
