@@ -16,4 +16,7 @@ pub mod Start
 pub mod Balance
 pub mod Counts
 pub mod Counted
+pub mod Lasting
+pub mod Lasted
+pub mod Duration
 pub mod Proved
