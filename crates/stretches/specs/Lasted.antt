@@ -99,7 +99,7 @@ idle-past s cs e f y n a l h = go (ltb (activityAt cs a .stretch .since .0) (s .
 
 -- ---- an arrival: its thread contends
 module _ (a now : ℕ) (x : Thread) where
-  pub arrive-runs : running a (arrive now x) ≡ cond (eqb (x .app) a) 1 0
+  arrive-runs : running a (arrive now x) ≡ cond (eqb (x .app) a) 1 0
   unfolding running arrive
   arrive-runs = go (x .phase)
     where

@@ -1,8 +1,8 @@
 pub mod Item8
 pub mod Standing
-pub mod Bounds
 pub mod Stand
 pub mod Figures
+pub mod Bounds
 pub mod Goes
 pub mod Changes
 pub mod Puts
