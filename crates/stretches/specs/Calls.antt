@@ -62,7 +62,7 @@ module _ {t : Table} (s : State) {cs : List Activity} (good : Good s) (k : Kept 
       by-drop s (λ (r : Answered). GoesTo t (r .state) cs (ifDone (r .answer) (dropped-to-head i (s .clock .0) ∷ []))) i
       (λ _. goes-nowhere k) (λ h. goes-dropping k i h)
 
-  completed-goes : (i : ℕ) → i < s .count → Leads (s .count) (s .threads) i → GoesTo t (afterCompletion s i) cs (completed i (s .clock .0) ∷ retiring s i)
+  pub completed-goes : (i : ℕ) → i < s .count → Leads (s .count) (s .threads) i → GoesTo t (afterCompletion s i) cs (completed i (s .clock .0) ∷ retiring s i)
   unfolding afterCompletion retiring activities noted ends
   completed-goes i h l = goes-on (goes-one (completed i (s .clock .0)) k none tt) (goes-completing k i h (runs-active (at (s .threads) i .phase) (l .runs)))
 

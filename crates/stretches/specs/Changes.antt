@@ -23,19 +23,18 @@ use Rattle.stretches.specs.Stand.{stand-same, stand-wakes, rests-equal, 
 use Rattle.stretches.specs.Figures.{none-active, ups-low}
 use Rattle.stretches.specs.Goes.{Goes, goes-one, held-set}
 
--- ---- the application a, whose threads are those of xs and then those of ys: n more of them are active, or n fewer, and W − u × t of
--- these comes to z more
+-- ---- the application a, with the threads of ys instead of those of xs: as many are active, and as far ahead of the clock
 module _ (a now m : ℕ) (xs ys : List Thread) where
   pub record Same : Type 0 where
     pub ones : sumBy (one a) (take m ys) ≡ sumBy (one a) (take m xs)
     pub amounts : sumBy (ups a) (take m ys) + sumBy (downs a now) (take m xs) ≡ sumBy (ups a) (take m xs) + sumBy (downs a now) (take m ys)
 
-  -- one more is active
+  -- one more is active, and they are as far ahead
   pub record Rises : Type 0 where
     pub ones : sumBy (one a) (take m ys) ≡ sumBy (one a) (take m xs) + 1
     pub amounts : sumBy (ups a) (take m ys) + sumBy (downs a now) (take m xs) ≡ sumBy (ups a) (take m xs) + sumBy (downs a now) (take m ys)
 
-  -- one less is active, and W − u × t comes to g more
+  -- one less is active, and they are g further ahead
   pub record Falls (g : ℕ) : Type 0 where
     pub ones : sumBy (one a) (take m xs) ≡ sumBy (one a) (take m ys) + 1
     pub amounts : sumBy (ups a) (take m ys) + sumBy (downs a now) (take m xs) ≡ sumBy (ups a) (take m xs) + sumBy (downs a now) (take m ys) + g

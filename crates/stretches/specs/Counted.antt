@@ -114,7 +114,7 @@ counts-then {a} {c} {d} {e} {os} {ps} {g} {k} {y} {z} p q =
           ∙ ap (λ i. i +ℤ lostNow e) (sym (t .1));
     }
 
-noted-length : (app : ℕ → ℕ) (cs : List Activity) (h : Happening) → length (noted app cs h) ≡ length cs
+pub noted-length : (app : ℕ → ℕ) (cs : List Activity) (h : Happening) → length (noted app cs h) ≡ length cs
 unfolding noted
 noted-length app cs (completed i t) = refl
 noted-length app cs (arrived i t) = refl

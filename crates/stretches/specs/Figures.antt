@@ -16,7 +16,7 @@ use Rattle.promises.specs.Cases.{by-test, and-false}
 use Rattle.stretches.specs.Item8.{one}
 use Rattle.stretches.specs.Standing.{ups, downs, Low}
 
--- x is one of n active threads of the application a, with W − u × t as u − d
+-- x adds n to the active threads of the application a at the moment t, and u − d to what these are ahead of the clock
 pub record Adds (a t : ℕ) (x : Thread) (n u d : ℕ) : Type 0 where
   pub ones : one a x ≡ n
   pub above : ups a x ≡ u

@@ -17,10 +17,10 @@ use Rattle.stretches.specs.Item8.{Even}
 use Rattle.stretches.specs.Standing.{StandsIn, Tied, Low, Held}
 
 -- ---- a happening comes where it can: the application of thread i is known, and some thread of it is active
-abbrev Known : (ℕ → ℕ) → List Activity → ℕ → Type 0
+abbrev pub Known : (ℕ → ℕ) → List Activity → ℕ → Type 0
 Known app cs i = app i < length cs
 
-abbrev Holds : (ℕ → ℕ) → List Activity → ℕ → Type 0
+abbrev pub Holds : (ℕ → ℕ) → List Activity → ℕ → Type 0
 Holds app cs i = Known app cs i × (0 < activityAt cs (app i) .active)
 
 abbrev pub Suits : (ℕ → ℕ) → List Activity → Happening → Type 0
@@ -44,7 +44,7 @@ module _ (app : ℕ → ℕ) where
   activities-append cs [] ks = refl
   activities-append cs (h ∷ hs) ks = activities-append (noted app cs h) hs ks
 
-  stretches-all : (P : Over → Type 0) (cs : List Activity) (hs ks : List Happening) → All P (stretches app cs hs) → All P (stretches app (activities app cs hs) ks)
+  pub stretches-all : (P : Over → Type 0) (cs : List Activity) (hs ks : List Happening) → All P (stretches app cs hs) → All P (stretches app (activities app cs hs) ks)
       → All P (stretches app cs (hs ++ ks))
   unfolding stretches activities
   stretches-all P cs [] ks a b = b

@@ -46,7 +46,7 @@ module _ {t : Table} {q m now : ℕ} {xs : List Thread} {cs : List Activity} (h 
       (λ a. put-other (h .tied) i inside (idle x) refl refl a now)
       (f .0) (put-rests (h .tied) i inside (idle x) refl refl now (f .0) (non-active (x .phase) n) refl (f .2)) (freed now x) left (f .1)
 
-  goes-leaving : Goes t q m now (set xs i (leave now x)) cs (leaving now i x)
+  pub goes-leaving : Goes t q m now (set xs i (leave now x)) cs (leaving now i x)
   unfolding leave
   goes-leaving = go (isNon (x .phase)) (ltZ (scaled x now) (x .w .0)) refl refl
     where
