@@ -8,7 +8,7 @@ use native.Mathlib.Nat.{mul-le-mul-left}
 use lib.Dec.{T, eqb, nleb→lt, eqb→eq}
 use lib.IntN.{ℤ, pos, _-ℤ_, _*ℤ_}
 use lib.Signed.{ltZ, ltZ-yes}
-use Rattle.integers.specs.Parts.{up, dn, _≼_, sub-parts, dn-clip, mul-up, mul-dn, ltZ-false}
+use Rattle.integers.specs.Parts.{up, dn, _≼_, sub-parts, dn-clip, mul-up, mul-dn, ltZ-false, le-parts}
 use Rattle.lists.specs.Sum.{sumBy}
 use Rattle.lists.specs.All.{All, none, more}
 use Rattle.rules.specs.Threads.{Thread, Phase, Inactive, Contending, NonContending, isInactive, isContending, isNon, contends, active}
@@ -16,11 +16,7 @@ use Rattle.rules.specs.Stretches.{aheadIn}
 use Rattle.promises.specs.Cases.{test, by-test, true-T, and-false}
 use Rattle.promises.specs.Good.{early, rest, later, claimAs, claim, Ahead}
 use Rattle.lag.specs.Lag.{Behind, DueBy}
-use Rattle.lag.specs.Signs.{le-parts}
-
--- the share of a thread of the application a
-unfoldable pub ownShare : ℕ → Thread → ℕ
-ownShare a x = cond (eqb (x .app) a) (x .share) 0
+use Rattle.stretches.specs.Shares.{ownShare}
 
 -- ---- by phase, share, W and E
 module _ (t k e u : ℕ) (w z : ℤ) where

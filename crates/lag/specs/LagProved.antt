@@ -1,28 +1,34 @@
 -- The lag bound holds, from what holds of every given state.
-use mathlib.Core.Path.{_≡_, ap}
-use mathlib.Core.List.{List}
+use mathlib.Core.Path.{_≡_, refl, ap}
+use mathlib.Core.List.{List, [], _∷_}
 use Prim.Native.Nat.{ℕ, _+_, _*_, _-_, _≤_}
 use native.Mathlib.Omega.{arith}
 use lib.IntN.{ℤ, pos, _+ℤ_, _-ℤ_, _*ℤ_}
 use lib.Signed.{_≤ℤ_}
 use lib.ListN.{take}
-use Rattle.integers.specs.Parts.{up, dn, add-parts, sub-parts, parts-le}
+use Rattle.integers.specs.Parts.{up, dn, add-parts, sub-parts, parts-le, times-up, times-dn}
 use Rattle.lists.specs.Sum.{sumBy}
 use Rattle.lists.specs.All.{All, all-at, all-of}
-use Rattle.rules.specs.Threads.{State, blank}
+use Rattle.rules.specs.Threads.{Thread, State, blank}
 use Rattle.rules.specs.Table.{Table, Done, sharesTo, tableAnswer}
 use Rattle.rules.specs.Calls.{Call}
-use Rattle.rules.specs.Stretches.{Stretch, aheadIn, aheadOf, shareOf, elapsed}
+use Rattle.rules.specs.Stretches.{Stretch, aheadIn, aheadOf, shareOf, elapsed, total}
 use Rattle.promises.specs.Good.{claim}
 use Rattle.promises.specs.Keep.{inside}
 use Rattle.promises.specs.Begin.{start-good}
 use Rattle.promises.specs.Ready.{gone-good}
 use Rattle.promises.specs.Always.{after-good}
+use Rattle.stretches.specs.Shares.{own-shares}
 use Rattle.stretches.specs.Proved.{item-8}
 use Rattle.lag.specs.Lag.{EachBehind, othersOf, left, moment, stands, Until, Promised}
-use Rattle.lag.specs.Signs.{times-up, times-dn, total-parts}
 use Rattle.lag.specs.Claimed.{Counts, all-cover}
-use Rattle.lag.specs.Rows.{left-good, all-shares, own-shares, own-within}
+use Rattle.lag.specs.Rows.{left-good, tied, all-shares, own-within}
+
+-- a sum of integers by the sums of their parts
+total-parts : (f : Thread → ℤ) (xs : List Thread) → up (total f xs) + sumBy (λ x. dn (f x)) xs ≡ dn (total f xs) + sumBy (λ x. up (f x)) xs
+unfolding total sumBy
+total-parts f [] = refl
+total-parts f (x ∷ xs) = let s = add-parts (f x) (total f xs) in omega (arith, total-parts f xs, s .eq)
 
 -- the sums: U and U_A of the shares, C of the claims, D and N of the parts of what a is ahead
 sums : (k t e all own c d n : ℕ) → own ≤ all → k * t ≤ e → e * own + k * d ≤ c + k * t * own + k * n → c + k * t * all ≤ e * all → k * d ≤ k * n + (all - own) * (e - k * t)
@@ -48,7 +54,7 @@ module _ (usual : ℕ) (t : Table) (ok : tableAnswer usual t ≡ Done) (cs : Lis
       let xs = take (s .count) (s .threads) in
       let b : k * sumBy (λ x. dn (aheadIn a m x)) xs ≤ k * sumBy (λ x. up (aheadIn a m x)) xs + othersOf a t * (e - k * m) =
       sums k m e (sharesTo (t .rows) (t .threads)) (shareOf a t) (sumBy (claim m k e) xs) _ _ (own-within usual t ok cs a) (u .ahead)
-      (rw (← own-shares usual t ok cs a) (all-cover a m k e (counts a k e u)))
+      (rw (← own-shares (tied usual t ok cs) a) (all-cover a m k e (counts a k e u)))
       (rw (← all-shares usual t ok cs) (left-good usual t ok cs .rows .claims k e (u .whole) (u .ahead))) in
       omega (arith, b, ap (λ (z : ℕ). k * z) (total-parts (aheadIn a m) xs))
 

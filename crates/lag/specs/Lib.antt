@@ -1,5 +1,4 @@
 pub mod Lag
-pub mod Signs
 pub mod Claimed
 pub mod Rows
 pub mod LagProved

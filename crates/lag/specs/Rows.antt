@@ -1,5 +1,5 @@
 -- The threads after leaving have the rows of the table: the shares of all, and of one application.
-use mathlib.Core.Path.{_≡_, refl, sym, ap, ap₂, _∙_, subst}
+use mathlib.Core.Path.{_≡_, refl, sym, ap, _∙_, subst}
 use mathlib.Core.Bool.{cond}
 use mathlib.Core.List.{List}
 use Prim.Native.Nat.{ℕ, zero, suc, _+_, _≤_, _<_}
@@ -14,15 +14,17 @@ use Rattle.rules.specs.Threads.{Thread, State, blank, at}
 use Rattle.rules.specs.Table.{Table, Done, headAnswer, rowsAnswer, rowAt, sharesTo, tableAnswer, meant, opened, start}
 use Rattle.rules.specs.Leaving.{leave, gone}
 use Rattle.rules.specs.Calls.{Call, after}
-use Rattle.rules.specs.Stretches.{shareTo, shareOf}
+use Rattle.rules.specs.Stretches.{shareOf}
 use Rattle.promises.specs.Cases.{by-test, test}
 use Rattle.promises.specs.Branches.{by-leaving}
 use Rattle.promises.specs.Good.{share}
 use Rattle.promises.specs.Begin.{both-done, head-admitted, opened-at, start-good}
-use Rattle.promises.specs.Ready.{Steady, gone-beside, gone-good}
+use Rattle.promises.specs.Ready.{Steady, gone-good}
 use Rattle.promises.specs.Always.{after-good}
 use Rattle.promises.specs.Unchanged.{calls-same}
-use Rattle.lag.specs.Claimed.{ownShare}
+use Rattle.stretches.specs.Standing.{Tied}
+use Rattle.stretches.specs.Shares.{ownShare, own-shares}
+use Rattle.stretches.specs.Proved.{kept-left}
 
 -- leaving changes nothing that f sees, where it does not see phase, W and E
 gone-keeps : {A : Type 0} (f : Thread → A) → ((t : ℕ) (x : Thread) → f (leave t x) ≡ f x) → (s : State) (i : ℕ) → f (at (gone s .threads) i) ≡ f (at (s .threads) i)
@@ -52,40 +54,29 @@ module _ (usual : ℕ) (t : Table) (ok : tableAnswer usual t ≡ Done) (cs : Lis
   pub left-good : Steady s
   left-good = gone-good (after-good cs (start-good usual t ok)) .0
 
-  count-is : s .count ≡ t .threads
-  unfolding start
-  count-is = gone-beside (after (start usual t) cs) .count ∙ calls-same cs (start usual t) .count
-
-  app-is : (i : ℕ) → i < t .threads → at (s .threads) i .app ≡ rowAt (t .rows) i .app
-  app-is i h = gone-keeps (λ (x : Thread). x .app) (λ t x. by-leaving (λ (y : Thread). y .app ≡ x .app) t x refl (λ _ _. refl)) (after (start usual t) cs) i
-      ∙ calls-same cs (start usual t) .row i .0 ∙ ap (λ (x : Thread). x .app) (begun-at i h)
+  pub tied : Tied t (s .q) (s .count) (s .threads)
+  tied = kept-left usual t ok cs .tied
 
   pub share-is : (i : ℕ) → i < t .threads → at (s .threads) i .share ≡ rowAt (t .rows) i .share
-  share-is i h = gone-keeps (λ (x : Thread). x .share) (λ t x. by-leaving (λ (y : Thread). y .share ≡ x .share) t x refl (λ _ _. refl)) (after (start usual t) cs) i
-      ∙ calls-same cs (start usual t) .row i .1 ∙ ap (λ (x : Thread). x .share) (begun-at i h)
+  share-is i h = tied .share-same i (omega (arith, tied .count-same))
 
   pub period-is : (i : ℕ) → i < t .threads → at (s .threads) i .period ≡ meant usual (rowAt (t .rows) i .period)
   period-is i h = gone-keeps (λ (x : Thread). x .period) (λ t x. by-leaving (λ (y : Thread). y .period ≡ x .period) t x refl (λ _ _. refl)) (after (start usual t) cs) i
       ∙ calls-same cs (start usual t) .row i .2 ∙ ap (λ (x : Thread). x .period) (begun-at i h)
 
   pub q-is : s .q ≡ t .q
-  unfolding start
-  q-is = gone-beside (after (start usual t) cs) .q ∙ calls-same cs (start usual t) .q
+  q-is = tied .q-same
 
   long : t .threads ≤ length (s .threads)
   long = omega (arith, few, left-good .rows .long)
 
   pub all-shares : sumBy share (take (s .count) (s .threads)) ≡ sharesTo (t .rows) (t .threads)
   unfolding sharesTo
-  all-shares = rw count-is (sum-steps share (sharesTo (t .rows)) (s .threads) refl (t .threads) long (λ i h. ap (λ (u : ℕ). sharesTo (t .rows) i + u) (sym (share-is i h))))
-
-  pub own-shares : (a : ℕ) → sumBy (ownShare a) (take (s .count) (s .threads)) ≡ shareOf a t
-  unfolding shareTo ownShare
-  own-shares a = rw count-is (sum-steps (ownShare a) (shareTo a (t .rows)) (s .threads) refl (t .threads) long (λ i h. ap₂ (λ (b u : ℕ). shareTo a (t .rows) i + cond (eqb b a) u 0) (sym (app-is i h)) (sym (share-is i h))))
+  all-shares = rw (tied .count-same) (sum-steps share (sharesTo (t .rows)) (s .threads) refl (t .threads) long (λ i h. ap (λ (u : ℕ). sharesTo (t .rows) i + u) (sym (share-is i h))))
 
   pub own-within : (a : ℕ) → shareOf a t ≤ sharesTo (t .rows) (t .threads)
   unfolding ownShare
-  own-within a = omega (arith, own-shares a, all-shares, sum-le (ownShare a) share one (take (s .count) (s .threads)))
+  own-within a = omega (arith, own-shares tied a, all-shares, sum-le (ownShare a) share one (take (s .count) (s .threads)))
     where
       one : (x : Thread) → ownShare a x ≤ share x
       one x = test (λ c. cond c (x .share) 0 ≤ x .share) (eqb (x .app) a) (λ _. omega arith) (λ _. omega arith)

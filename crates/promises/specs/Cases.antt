@@ -17,6 +17,14 @@ by-test P false f g = g refl
 pub true-T : {b : Bool} → b ≡ true → T b
 true-T e = subst T (sym e) tt
 
+pub T-true : (b : Bool) → T b → b ≡ true
+T-true true h = refl
+T-true false h = absurd h
+
+pub not-T : (b : Bool) → (T b → ⊥) → b ≡ false
+not-T true f = absurd (f tt)
+not-T false f = refl
+
 pub true-false : true ≡ false → ⊥
 true-false e = subst T e tt
 

@@ -23,7 +23,7 @@ use Rattle.rules.specs.Step.{Stepped, ready}
 use Rattle.rules.specs.Run.{stateAfter, ran}
 use Rattle.rules.specs.Calls as calls
 use Rattle.rules.specs.Calls.{Call, apply}
-use Rattle.rules.specs.History.{Happening, completed, arrived, dropped-to-head, granted, idle-tick, became-active, became-inactive, ifDone, retiring, waking, leavings, tickAs, tickOf, ticksOf, runAs, happens, history, Job, Finished, Account, figureOf, longer, completeHead, withWaiting, accountOf, account, completionsOf, grantsTo}
+use Rattle.rules.specs.History.{Happening, completed, arrived, dropped-to-head, granted, idle-tick, became-active, became-inactive, ifDone, retiring, leavings, tickAs, tickOf, ticksOf, runAs, happens, history, Job, Finished, Account, figureOf, longer, completeHead, withWaiting, accountOf, account, completionsOf, grantsTo}
 use Rattle.promises.specs.Cases.{by-test}
 use Rattle.promises.specs.Branches.{by-completion, by-step}
 use Rattle.promises.specs.Good.{Good}

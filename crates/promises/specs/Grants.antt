@@ -18,7 +18,7 @@ use Rattle.rules.specs.Step.{Stepped, ready}
 use Rattle.rules.specs.Run.{ran}
 use Rattle.rules.specs.Calls as calls
 use Rattle.rules.specs.Calls.{Call}
-use Rattle.rules.specs.History.{Happening, completed, arrived, dropped-to-head, ifDone, retiring, waking, leavings, tickAs, tickOf, ticksOf, runAs, happens, history}
+use Rattle.rules.specs.History.{Happening, completed, dropped-to-head, ifDone, retiring, tickAs, tickOf, ticksOf, runAs, happens, history}
 use Rattle.promises.specs.Branches.{by-step}
 use Rattle.promises.specs.Happenings.{leavings-all, waking-all, retiring-all}
 use Rattle.promises.specs.Demand3.{EndsInTime}

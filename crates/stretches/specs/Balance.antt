@@ -1,25 +1,18 @@
 -- The equation of Item 8 in the integers that it is stated in.
-use mathlib.Core.Path.{_≡_, refl, ap}
+use mathlib.Core.Path.{_≡_, refl}
 use mathlib.Core.Bool.{Bool, true, false, cond}
 use mathlib.Core.List.{List, [], _∷_}
 use Prim.Native.Nat.{ℕ, _+_, _*_, _<_}
 use native.Mathlib.Omega.{arith}
-use lib.IntN.{ℤ, pos, negsuc, _-ℤ_}
+use lib.IntN.{pos, _-ℤ_}
 use lib.ListN.{take}
-use Rattle.integers.specs.Parts.{up, dn, add-parts, sub-parts}
+use Rattle.integers.specs.Parts.{up, dn, add-parts, sub-parts, same-parts}
 use Rattle.lists.specs.Sum.{sumBy}
 use Rattle.rules.specs.Limits.{apps}
 use Rattle.rules.specs.Threads.{Thread, State, scaled, activeIn}
 use Rattle.rules.specs.Table.{Table}
 use Rattle.rules.specs.Stretches.{Activity, activityAt, aheadIn, total, aheadOf, balance, elapsed, shareOf}
 use Rattle.stretches.specs.Standing.{ups, downs, StandsIn, Kept}
-
--- numbers with the same difference of parts are the same
-pub same-parts : (x y : ℤ) → up x + dn y ≡ up y + dn x → x ≡ y
-same-parts (pos a) (pos b) h = ap pos (omega arith)
-same-parts (pos a) (negsuc b) h = absurd (omega arith)
-same-parts (negsuc a) (pos b) h = absurd (omega arith)
-same-parts (negsuc a) (negsuc b) h = ap negsuc (omega arith)
 
 -- one thread
 ahead-parts : (a now : ℕ) (x : Thread) → up (aheadIn a now x) + downs a now x ≡ ups a x + dn (aheadIn a now x)

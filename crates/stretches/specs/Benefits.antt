@@ -1,14 +1,15 @@
 -- The charge in the application a: its beneficiary loses its free share, if it is another's tick and it has an active thread.
 use mathlib.Core.Path.{_≡_, refl, sym, _∙_, subst}
 use mathlib.Core.Bool.{Bool, true, false, cond}
-use mathlib.Core.List.{List, [], _∷_}
-use Prim.Native.Nat.{ℕ, zero, suc, _+_, _≤_, _<_, zero-le, suc-le-suc}
+use mathlib.Core.List.{List}
+use Prim.Native.Nat.{ℕ, zero, suc, _+_, _≤_, _<_}
 use native.Mathlib.Decide.{ℕ-discrete}
 use native.Mathlib.Omega.{arith}
 use borrow.Author.Tests.{eqb-true, eqb-false, eq-eqb, ne-eqb}
-use lib.Dec.{T, eqb}
+use lib.Dec.{eqb}
 use lib.IntN.{pos}
-use lib.ListN.{take, getD, set}
+use lib.ListN.{take, set}
+use Rattle.lists.specs.Take.{sum-zero}
 use Rattle.integers.specs.Parts.{minus-parts}
 use Rattle.lists.specs.Sum.{sumBy}
 use Rattle.rules.specs.Limits.{nobody}
@@ -16,26 +17,15 @@ use Rattle.rules.specs.Threads.{Thread, State, blank, at, active, activeIn, los
 use Rattle.rules.specs.Table.{Table}
 use Rattle.rules.specs.Charge.{beneficiary, benefits}
 use Rattle.rules.specs.Stretches.{appOf}
-use Rattle.promises.specs.Cases.{by-test, both-true}
+use Rattle.promises.specs.Cases.{by-test, both-true, T-true, not-T}
 use Rattle.promises.specs.Deadlines.{earliest-in, earliest-first}
 use Rattle.promises.specs.Shares.{others}
 use Rattle.promises.specs.Good.{Rows}
 use Rattle.promises.specs.Keep.{fine-at, benefits-at, benefits-length}
 use Rattle.stretches.specs.Item8.{one}
 use Rattle.stretches.specs.Standing.{ups, downs, Tied}
-use Rattle.stretches.specs.Figures.{T-true, adds-none}
+use Rattle.stretches.specs.Figures.{adds-none}
 use Rattle.stretches.specs.Puts.{tied-like, put-other, lose-shifts}
-
--- a sum of nothing
-pub sum-zero : {A : Type 0} (f : A → ℕ) (n : ℕ) (xs : List A) (d : A) → ((i : ℕ) → i < n → f (getD xs i d) ≡ 0) → sumBy f (take n xs) ≡ 0
-unfolding sumBy
-sum-zero f zero xs d z = refl
-sum-zero f (suc n) [] d z = refl
-sum-zero f (suc n) (x ∷ xs) d z = omega (arith, z 0 (suc-le-suc zero-le), sum-zero f n xs d (λ i h. z (suc i) (suc-le-suc h)))
-
-not-T : (b : Bool) → (T b → ⊥) → b ≡ false
-not-T true f = absurd (f tt)
-not-T false f = refl
 
 -- ---- what the number a adds below n, but own
 abbrev dueBelow : ℕ → ℕ → ℕ → ℕ → ℕ

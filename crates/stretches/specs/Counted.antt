@@ -10,18 +10,14 @@ use lib.Dec.{eqb}
 use lib.IntN.{ℤ, pos, _+ℤ_}
 use lib.ListN.{length, set, length-set}
 use lib.Seq.{getD-set-same, getD-set-other}
-use Rattle.integers.specs.Parts.{add-parts}
+use Rattle.integers.specs.Parts.{add-parts, same-parts, pos-none}
 use Rattle.lists.specs.MapTo.{map-length, map-has}
 use Rattle.rules.specs.History.{Happening, completed, arrived, dropped-to-head, granted, idle-tick, became-active, became-inactive}
 use Rattle.rules.specs.Stretches.{Activity, quiet, activityAt, wakes, runs, rests, forgets, noted, activities, Over, overAt, ends, stretches, lostAs, lostIn, grantedIn}
 use Rattle.promises.specs.Cases.{by-test}
 use Rattle.stretches.specs.Item8.{grantedBy, lostBy, lostNow}
-use Rattle.stretches.specs.Balance.{same-parts}
 use Rattle.stretches.specs.Goes.{Suits, Suited, still, next}
 use Rattle.stretches.specs.Counts.{Counts, Totals, totals-append, totals-none, other-total, counts-same, counts-runs, counts-wakes, counts-rests, counts-idle}
-
-pub pos-none : (z : ℤ) → pos 0 +ℤ z ≡ z
-pos-none z = same-parts _ _ (omega (arith, add-parts (pos 0) z))
 
 -- ---- what one happening grants the application a, and what it loses by it
 abbrev ticked : (ℕ → ℕ) → ℕ → Happening → ℕ

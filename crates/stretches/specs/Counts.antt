@@ -10,11 +10,10 @@ use borrow.Author.Tests.{eq-eqb, ne-eqb, eqb-true, eqb-false}
 use lib.Dec.{eqb}
 use lib.IntN.{ℤ, pos, _+ℤ_}
 use lib.ListN.{length}
-use Rattle.integers.specs.Parts.{add-parts}
+use Rattle.integers.specs.Parts.{add-parts, same-parts}
 use Rattle.rules.specs.Stretches.{Stretch, Activity, activityAt, begins, wakes, runs, rests, forgets, Over, overAt, cutAt, cutTo}
 use Rattle.promises.specs.Cases.{by-test}
 use Rattle.stretches.specs.Item8.{grantedBy, lostBy, grantedNow, lostNow}
-use Rattle.stretches.specs.Balance.{same-parts}
 
 -- ---- the application a, from c to c', with the stretches os over, g ticks granted and z lost
 pub record Counts (a : ℕ) (c c' : Activity) (os : List Over) (g : ℕ) (z : ℤ) : Type 0 where

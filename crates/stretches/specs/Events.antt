@@ -20,11 +20,10 @@ use Rattle.rules.specs.Arrival.{arriveAs, arrive}
 use Rattle.rules.specs.Drop.{headOnly}
 use Rattle.rules.specs.History.{unreceived, received, dropped-to-head, became-active, became-inactive, fateOf}
 use Rattle.rules.specs.Stretches.{Activity, noted, ends as over, appOf}
-use Rattle.promises.specs.Cases.{both, both-true}
+use Rattle.promises.specs.Cases.{both, both-true, T-true}
 use Rattle.promises.specs.Deadlines.{earliest-in}
 use Rattle.promises.specs.Events.{freed-nat}
 use Rattle.stretches.specs.Standing.{Tied, Low, Held}
-use Rattle.stretches.specs.Figures.{T-true}
 use Rattle.stretches.specs.Goes.{Goes, goes-nowhere, goes-one}
 use Rattle.stretches.specs.Changes.{Same, Falls, held-same, goes-wakes, goes-rests}
 use Rattle.stretches.specs.Puts.{low-loses, among, tied-put, put-same, put-other, put-rests, put-wakes, lose-shifts}

@@ -5,7 +5,6 @@ use mathlib.Core.List.{List, [], _∷_}
 use Prim.Native.Nat.{ℕ, zero, suc, _+_, _*_, _≤_, _<_}
 use native.Mathlib.Omega.{arith}
 use borrow.Author.Tests.{eq-eqb, ne-eqb}
-use lib.Dec.{T}
 use lib.ListN.{length, take, set}
 use Rattle.integers.specs.Parts.{up, dn}
 use Rattle.lists.specs.Sum.{sumBy}
@@ -36,10 +35,6 @@ module _ {a : ℕ} (t : ℕ) (x : Thread) where
 
   pub adds-none : activeIn a x ≡ false → Adds a t x 0 0 0
   adds-none = adds false
-
-pub T-true : (b : Bool) → T b → b ≡ true
-T-true true h = refl
-T-true false h = absurd h
 
 -- ---- whose thread it is
 module _ (a : ℕ) (x : Thread) where

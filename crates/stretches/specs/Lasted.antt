@@ -11,7 +11,7 @@ use lib.Dec.{T, eqb, ltb}
 use lib.ListN.{length, take, set}
 use lib.Seq.{getD-set-other}
 use Rattle.lists.specs.Sum.{sumBy, sum-map}
-use Rattle.lists.specs.Take.{sum-put, sum-at}
+use Rattle.lists.specs.Take.{sum-put, sum-at, sum-zero}
 use Rattle.lists.specs.MapTo.{mapTo}
 use Rattle.lists.specs.All.{All, none}
 use Rattle.rules.specs.Limits.{apps, nobody}
@@ -27,7 +27,6 @@ use Rattle.rules.specs.Stretches.{Activity, quiet, activityAt, wakes, noted, ac
 use Rattle.promises.specs.Branches.{by-fitting}
 use Rattle.promises.specs.Ready.{Ready, gone-beside, none-contends}
 use Rattle.stretches.specs.Standing.{Held, Kept}
-use Rattle.stretches.specs.Benefits.{sum-zero}
 use Rattle.stretches.specs.Puts.{among}
 use Rattle.stretches.specs.Leavings.{goes-leaving-to}
 use Rattle.stretches.specs.Lasting.{Long, Past, past-all, leaving-to-rests}

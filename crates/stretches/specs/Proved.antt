@@ -4,6 +4,7 @@ use mathlib.Core.List.{List, _++_}
 use Prim.Native.Nat.{ℕ, _<_}
 use native.Mathlib.Omega.{arith}
 use lib.ListN.{length-replicate}
+use Rattle.integers.specs.Parts.{pos-none}
 use Rattle.rules.specs.Limits.{apps}
 use Rattle.rules.specs.Table.{Table, Done, tableAnswer, start}
 use Rattle.rules.specs.Leaving.{gone}
@@ -19,14 +20,15 @@ use Rattle.stretches.specs.Calls.{kept-gone, goes-after}
 use Rattle.stretches.specs.Start.{quiet-at, begins-good, kept-start}
 use Rattle.stretches.specs.Balance.{balanced}
 use Rattle.stretches.specs.Counts.{Counts}
-use Rattle.stretches.specs.Counted.{pos-none, counted}
+use Rattle.stretches.specs.Counted.{counted}
 
 module _ (usual : ℕ) (t : Table) (e : tableAnswer usual t ≡ Done) (cs : List Call) where
   goes : GoesTo t (now usual t cs) allQuiet (past usual t cs)
   goes = goes-after cs (start usual t) (begins-good usual t e) (kept-start usual t e)
 
-  left : Kept t (gone (now usual t cs)) (activities (appOf t) allQuiet (past usual t cs ++ leavings (now usual t cs)))
-  left = subst (Kept t (gone (now usual t cs))) (sym (activities-append (appOf t) allQuiet (past usual t cs) (leavings (now usual t cs)))) (kept-gone (now usual t cs) (after-good cs (begins-good usual t e)) (goes .held))
+  -- .. and after leaving
+  pub kept-left : Kept t (gone (now usual t cs)) (activities (appOf t) allQuiet (past usual t cs ++ leavings (now usual t cs)))
+  kept-left = subst (Kept t (gone (now usual t cs))) (sym (activities-append (appOf t) allQuiet (past usual t cs) (leavings (now usual t cs)))) (kept-gone (now usual t cs) (after-good cs (begins-good usual t e)) (goes .held))
 
   -- the application a from an activity c to where it stands
   abbrev From : ℕ → Activity → Type 0
@@ -40,7 +42,7 @@ module _ (usual : ℕ) (t : Table) (e : tableAnswer usual t ≡ Done) (cs : List
   holds = record {
     holds = λ a l. goes .held .stands a l .active;
     between = λ a l. balanced (now usual t cs) (goes .held) a l;
-    after-leaving = λ a l. balanced (gone (now usual t cs)) left a l;
+    after-leaving = λ a l. balanced (gone (now usual t cs)) kept-left a l;
     ended = goes .even;
     all-granted = λ a l. omega (arith, counts a l .ticks);
     all-lost = λ a l. sym (counts a l .losses) ∙ pos-none (lostIn (appOf t) a (past usual t cs));

@@ -6,6 +6,7 @@ use Prim.Native.Nat.{ℕ, zero, suc, _≤_, _<_}
 use native.Mathlib.Omega.{arith}
 use lib.Dec.{eqb}
 use lib.ListN.{take, replicate, length-replicate}
+use Rattle.lists.specs.Take.{sum-zero}
 use Rattle.lists.specs.Sum.{sumBy}
 use Rattle.rules.specs.Limits.{maxThreads, apps}
 use Rattle.rules.specs.Threads.{blank, at}
@@ -16,7 +17,6 @@ use Rattle.promises.specs.Keep.{fine-at}
 use Rattle.promises.specs.Begin.{both-done, head-admitted, shares-within, opened-at, start-good}
 use Rattle.stretches.specs.Item8.{one}
 use Rattle.stretches.specs.Standing.{Tied, Kept}
-use Rattle.stretches.specs.Benefits.{sum-zero}
 use Rattle.stretches.specs.Ticks.{low-all}
 
 pub quiet-at : (n a : ℕ) → activityAt (replicate n quiet) a ≡ quiet
