@@ -1,1 +1,3 @@
 pub mod Item8
+pub mod Standing
+pub mod Bounds
