@@ -15,6 +15,7 @@ ghost use Rattle.accounts.specs.Told.{room, Tells};
 
 mod activity;
 mod amounts;
+mod leaving;
 mod lines;
 
 use quantities::Activity;

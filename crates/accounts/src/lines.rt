@@ -84,14 +84,7 @@ fn line(
 }
 
 // The line of an application's stretch that is over where none of its threads is active any more.
-pub fn over(
-    out: &mut [u8],
-    at: usize,
-    t: Table,
-    a: usize,
-    c: Activity,
-    until: Moment,
-) -> usize
+pub fn over(out: &mut [u8], at: usize, t: Table, a: usize, c: Activity, until: Moment) -> usize
     requires { ⌜ Lined t a (until .0) c × (at + wide ≤ length (now out)) ⌝ }
     ensures { λ r. ⌜ Put (now (out .entry)) at (overLines t (overAt (until .0) a c)) (now (out .exit)) r ⌝ }
     ensures { λ r. ⌜ r ≤ at + wide ⌝ }

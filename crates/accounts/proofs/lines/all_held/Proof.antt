@@ -44,7 +44,7 @@ loop-again c =
     let l = c .before .before .before .before .before .before .loop in
     let s = c .before .before .before .before .before .before .before .before .args in
     let e = c .before .before .held .ensures in
-    (omega arith, omega (arith, l .inv .1, e .1), put-as (held-more (s .t) (s .how) (s .until .0) (s .cs) (l .a)) (put-then (l .inv .2) (e .0)))
+    (omega arith, omega (arith, l .inv .1, e .1), put-as (held-more (s .t) (s .how) (s .until .0) (s .t4) (l .a)) (put-then (l .inv .2) (e .0)))
 
 same-length : tie.Need-same-length Inv-loop μ-loop
 same-length c = put-length (c .before .loop .inv .2)
@@ -54,7 +54,7 @@ returns c =
     let l = c .before .loop in
     let s = c .before .before .before .args in
     let n : l .a ≡ apps = omega (arith, l .inv .0, c .loop-test .left) in
-    (put-as (ap (heldLines (s .t) (s .how) (s .until .0) (s .cs)) n) (l .inv .2), omega (arith, l .inv .1, l .inv .0))
+    (put-as (ap (heldLines (s .t) (s .how) (s .until .0) (s .t4)) n) (l .inv .2), omega (arith, l .inv .1, l .inv .0))
 
 pub all-held-spec : {M : Type 1} → statement M
 all-held-spec =
