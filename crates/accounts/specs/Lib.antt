@@ -2,3 +2,4 @@ pub mod Told
 pub mod Steps
 pub mod Lines
 pub mod Rest
+pub mod Ticks

@@ -17,6 +17,7 @@ mod activity;
 mod amounts;
 mod leaving;
 mod lines;
+pub mod ticks;
 
 use quantities::Activity;
 use quantities::Amount;
