@@ -3,3 +3,5 @@ pub mod Steps
 pub mod Lines
 pub mod Rest
 pub mod Ticks
+pub mod Ended
+pub mod Events

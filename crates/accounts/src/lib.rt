@@ -3,27 +3,27 @@
 ghost use mathlib.Core.Path.{_≡_};
 ghost use Prim.Native.Nat.{_+_, _≤_};
 ghost use lib.ListN.{length};
-ghost use Rattle.rules.specs.Limits.{apps, clockEnd};
-ghost use Rattle.rules.specs.Calls.{Given};
-ghost use Rattle.rules.specs.Table.{Done};
-ghost use Rattle.rules.specs.Reading.{atItsMoment};
+ghost use Rattle.rules.specs.Limits.{apps};
 ghost use Rattle.rules.specs.Stretches.{allQuiet};
-ghost use Rattle.rules.specs.Report.{eventFor, openLines};
-ghost use Rattle.stretches.specs.Standing.{Kept};
+ghost use Rattle.rules.specs.Report.{openLines};
 ghost use Rattle.text.specs.Put.{Put};
-ghost use Rattle.accounts.specs.Told.{room, Tells};
+ghost use Rattle.accounts.specs.Told.{room};
+ghost use Rattle.accounts.specs.Ended.{KeptAt};
 
 mod activity;
 mod amounts;
-mod leaving;
+pub mod events;
+pub mod leaving;
 mod lines;
 pub mod ticks;
 
+use crate::lines::all_held;
 use quantities::Activity;
 use quantities::Amount;
 use quantities::Moment;
 use quantities::Stretch;
 use quantities::Table;
+use text::report::How;
 
 // There is room for all lines of a tick, or of an event.
 pub const ROOM: usize = 16384;
@@ -41,4 +41,20 @@ pub fn begin() -> [Activity; Table::APPS]
         },
     };
     [c; Table::APPS]
+}
+
+// The lines of the stretches that hold at the moment `until`.
+pub fn still_open(
+    out: &mut [u8],
+    from: usize,
+    t: Table,
+    cs: [Activity; Table::APPS],
+    until: Moment,
+) -> usize
+    requires { ⌜ KeptAt t cs (until .0) × (from + room ≤ length (now out)) ⌝ }
+    ensures { λ r. ⌜ Put (now (out .entry)) from (openLines t (until .0) cs apps) (now (out .exit)) r ⌝ }
+    ensures { λ r. ⌜ r ≤ from + room ⌝ }
+{
+    let how = How::Open;
+    all_held(out, from, t, cs, until, how)
 }
