@@ -18,7 +18,8 @@ use Rattle.rules.specs.Table.{Table, Answer, Answered, Done, Refused}
 use Rattle.rules.specs.Leaving.{leave, gone}
 use Rattle.rules.specs.Completion.{ends as ended, takes, freed, completion}
 use Rattle.rules.specs.Arrival.{arrival}
-use Rattle.rules.specs.History.{Happening, Fate, received, unreceived, completed, arrived, became-active, became-inactive, fateOf, receiverIn, retiring, leaves, leavings, waking, happens}
+use Rattle.rules.specs.Drop.{dropped}
+use Rattle.rules.specs.History.{Happening, Fate, received, unreceived, completed, arrived, dropped-to-head, ifDone, became-active, became-inactive, fateOf, receiverIn, retiring, leaves, leavings, waking, happens}
 use Rattle.rules.specs.Stretches.{Activity, activityAt, lostAs, rests, wakes, noted, ends, overAt, appOf}
 use Rattle.rules.specs.Report.{overLines, stand}
 use Rattle.rules.specs.Calls as calls
@@ -206,3 +207,12 @@ module _ {t : Table} {s : State} {cs : List Activity} (good : Good s) (kept : Ke
       let g = kept-gone s good kept in
       let a = kept .tied .app-max k (arrives s k done) in
       (a, rw e (in-range g (omega (arith, gone-beside s .q, good .q-max)) (omega (arith, ap (λ (m : Moment). m .0) (gone-beside s .clock), good .time)) (appOf t k) a .active-max))
+
+-- ---- a drop changes nothing here
+pub dropped-none : (t : Table) (s : State) (cs : List Activity) (k : ℕ) (out : List ℕ) (from : ℕ) → Tells t cs (happens s (calls.drop k)) out from out from cs
+unfolding noted ends
+dropped-none t s cs k out from = go (dropped s k .answer)
+  where
+    go : (a : Answer) → Tells t cs (ifDone a (dropped-to-head k (s .clock .0) ∷ [])) out from out from cs
+    go Done = tells-silent (dropped-to-head k (s .clock .0)) refl refl
+    go (Refused n) = tells-none

@@ -57,10 +57,12 @@ loop-less c = search needs
 
 loop-again : tie.Need-loop-again Inv-loop μ-loop
 loop-again c =
-    let l = c .before .before .before .before .loop in
-    (omega arith, ⊎-elim (λ w. w .1 ∙ sym (some-more _ (l .i) _ ∙ rw (sym (c .before .can-take .ensures) ∙ w .0 .taken)))
-    (λ w. w .1 ∙ l .inv .1 ∙ sym (some-more _ (l .i) _ ∙ rw (sym (c .before .can-take .ensures) ∙ w .0 .left)))
-    (c .if1 .came))
+    let l = c .before .before .before .before .loop in (
+      omega arith,
+      ⊎-elim (λ w. w .1 ∙ sym (some-more _ (l .i) _ ∙ rw (sym (c .before .can-take .ensures) ∙ w .0 .taken)))
+          (λ w. w .1 ∙ l .inv .1 ∙ sym (some-more _ (l .i) _ ∙ rw (sym (c .before .can-take .ensures) ∙ w .0 .left)))
+          (c .if1 .came),
+    )
 
 returns : tie.Need-returns Inv-loop μ-loop
 returns c =
