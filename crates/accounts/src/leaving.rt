@@ -16,6 +16,7 @@ ghost use Rattle.text.specs.Put.{Put};
 ghost use Rattle.text.specs.Wide.{wide};
 ghost use Rattle.accounts.specs.Told.{Tells};
 ghost use Rattle.accounts.specs.Rest.{Rests};
+use crate::Marked;
 use crate::activity::rested;
 use crate::amounts::less;
 use crate::amounts::scaled;
@@ -28,12 +29,6 @@ use quantities::Phase;
 use quantities::State;
 use quantities::Table;
 use quantities::Thread;
-
-// How far lines were written, and where the applications then stand.
-pub struct Marked {
-    pub used: usize,
-    pub activities: [Activity; Table::APPS],
-}
 
 // Is the thread one that leaves at the moment now?
 pub fn leaves(t: Thread, now: Moment) -> bool

@@ -13,7 +13,7 @@ ghost use Rattle.accounts.specs.Ended.{KeptAt};
 mod activity;
 mod amounts;
 pub mod events;
-pub mod leaving;
+mod leaving;
 mod lines;
 pub mod ticks;
 
@@ -27,6 +27,12 @@ use text::report::How;
 
 // There is room for all lines of a tick, or of an event.
 pub const ROOM: usize = 16384;
+
+// How far lines were written, and where the applications then stand.
+pub struct Marked {
+    pub used: usize,
+    pub activities: [Activity; Table::APPS],
+}
 
 // No thread of any application has been active.
 pub fn begin() -> [Activity; Table::APPS]
