@@ -1,14 +1,14 @@
 -- The charge in the application a: its beneficiary loses its free share, if it is another's tick and it has an active thread.
-use mathlib.Core.Path.{_≡_, refl, sym, ap, _∙_, subst}
+use mathlib.Core.Path.{_≡_, refl, sym, _∙_, subst}
 use mathlib.Core.Bool.{Bool, true, false, cond}
 use mathlib.Core.List.{List, [], _∷_}
-use Prim.Native.Nat.{ℕ, zero, suc, _+_, _*_, _≤_, _<_, zero-le, suc-le-suc}
+use Prim.Native.Nat.{ℕ, zero, suc, _+_, _≤_, _<_, zero-le, suc-le-suc}
 use native.Mathlib.Decide.{ℕ-discrete}
 use native.Mathlib.Omega.{arith}
 use borrow.Author.Tests.{eqb-true, eqb-false, eq-eqb, ne-eqb}
 use lib.Dec.{T, eqb}
 use lib.IntN.{pos}
-use lib.ListN.{length, take, getD, set}
+use lib.ListN.{take, getD, set}
 use Rattle.integers.specs.Parts.{minus-parts}
 use Rattle.lists.specs.Sum.{sumBy}
 use Rattle.rules.specs.Limits.{nobody}
@@ -23,7 +23,7 @@ use Rattle.promises.specs.Good.{Rows}
 use Rattle.promises.specs.Keep.{fine-at, benefits-at, benefits-length}
 use Rattle.stretches.specs.Item8.{one}
 use Rattle.stretches.specs.Standing.{ups, downs, Tied}
-use Rattle.stretches.specs.Figures.{adds-none}
+use Rattle.stretches.specs.Figures.{T-true, adds-none}
 use Rattle.stretches.specs.Puts.{tied-like, put-other, lose-shifts}
 
 -- a sum of nothing
@@ -33,16 +33,12 @@ sum-zero f zero xs d z = refl
 sum-zero f (suc n) [] d z = refl
 sum-zero f (suc n) (x ∷ xs) d z = omega (arith, z 0 (suc-le-suc zero-le), sum-zero f n xs d (λ i h. z (suc i) (suc-le-suc h)))
 
-pub T-true : (b : Bool) → T b → b ≡ true
-T-true true h = refl
-T-true false h = absurd h
-
 not-T : (b : Bool) → (T b → ⊥) → b ≡ false
 not-T true f = absurd (f tt)
 not-T false f = refl
 
 -- ---- what the number a adds below n, but own
-abbrev pub dueBelow : ℕ → ℕ → ℕ → ℕ → ℕ
+abbrev dueBelow : ℕ → ℕ → ℕ → ℕ → ℕ
 dueBelow own n a r = others own n (λ b. cond (eqb b a) r 0)
 
 due-above : (own n a r : ℕ) → n ≤ a → dueBelow own n a r ≡ 0

@@ -1,17 +1,14 @@
 -- Every call and every sequence of calls keeps where the applications stand, and every stretch that it ends without an idle tick is
 -- even.
-use mathlib.Core.Path.{_≡_, refl, sym, ap, _∙_, subst}
-use mathlib.Core.Bool.{false, not}
 use mathlib.Core.List.{List, [], _∷_, _++_}
-use Prim.Native.Nat.{ℕ, zero, suc, _-_, _<_}
+use Prim.Native.Nat.{ℕ, zero, suc, _-_, _≤_, _<_}
 use native.Mathlib.Omega.{arith}
-use lib.Dec.{T}
 use Rattle.lists.specs.All.{none}
-use Rattle.rules.specs.Limits.{maxJobs}
-use Rattle.rules.specs.Threads.{State, withRows, at}
-use Rattle.rules.specs.Table.{Table, Answered, done}
+use Rattle.lists.specs.MapTo.{mapTo}
+use Rattle.rules.specs.Threads.{State, at}
+use Rattle.rules.specs.Table.{Table, Answered}
 use Rattle.rules.specs.Completion.{completion, afterCompletion}
-use Rattle.rules.specs.Leaving.{gone}
+use Rattle.rules.specs.Leaving.{leave, gone}
 use Rattle.rules.specs.Arrival.{arrival, arrived}
 use Rattle.rules.specs.Drop.{dropped}
 use Rattle.rules.specs.Choice.{chosen}
@@ -19,16 +16,16 @@ use Rattle.rules.specs.Step.{Stepped, ready, stepped}
 use Rattle.rules.specs.Run.{Ran, stateAfter, ran}
 use Rattle.rules.specs.Calls as calls
 use Rattle.rules.specs.Calls.{Call, apply, after}
-use Rattle.rules.specs.History.{completed, arrived as arrived-at, dropped-to-head, ifDone, retiring, waking, leavings, tickAs, tickOf, ticksOf, runAs, happens, history}
+use Rattle.rules.specs.History.{completed, arrived as arrived-at, dropped-to-head, ifDone, retiring, waking, leavingTo, leavings, tickAs, tickOf, ticksOf, runAs, happens, history}
 use Rattle.rules.specs.Stretches.{Activity, noted, activities, ends, appOf}
 use Rattle.promises.specs.Branches.{by-completion, by-arrival, by-drop, by-step, by-run}
 use Rattle.promises.specs.Good.{Good, Leads}
 use Rattle.promises.specs.Keep.{fine-at}
 use Rattle.promises.specs.Ready.{gone-beside, gone-good, ready-ready, chosen-leads}
 use Rattle.promises.specs.Always.{steps-good, apply-good}
-use Rattle.stretches.specs.Standing.{Kept}
-use Rattle.stretches.specs.Goes.{Goes, goes-nowhere, goes-one, goes-on}
-use Rattle.stretches.specs.Leavings.{GoesTo, goes-gone}
+use Rattle.stretches.specs.Standing.{Held, Kept}
+use Rattle.stretches.specs.Goes.{goes-nowhere, goes-one, goes-on}
+use Rattle.stretches.specs.Leavings.{GoesTo, goes-leaving-to, goes-gone}
 use Rattle.stretches.specs.Events.{goes-dropping, goes-arriving, goes-completing}
 use Rattle.stretches.specs.Ticks.{kept-fitted, goes-idle, goes-grant, runs-active}
 
@@ -65,7 +62,7 @@ module _ {t : Table} (s : State) {cs : List Activity} (good : Good s) (k : Kept 
       by-drop s (λ (r : Answered). GoesTo t (r .state) cs (ifDone (r .answer) (dropped-to-head i (s .clock .0) ∷ []))) i
       (λ _. goes-nowhere k) (λ h. goes-dropping k i h)
 
-  completed-goes : (i : ℕ) → i < s .count → Leads (s .count) (s .threads) i → GoesTo t (afterCompletion s i) cs (completed i (s .clock .0) ∷ retiring s i)
+  pub completed-goes : (i : ℕ) → i < s .count → Leads (s .count) (s .threads) i → GoesTo t (afterCompletion s i) cs (completed i (s .clock .0) ∷ retiring s i)
   unfolding afterCompletion retiring activities noted ends
   completed-goes i h l = goes-on (goes-one (completed i (s .clock .0)) k none tt) (goes-completing k i h (runs-active (at (s .threads) i .phase) (l .runs)))
 
@@ -99,6 +96,11 @@ module _ {t : Table} where
   goes-after (d ∷ ds) s good k = let g = goes-call d s good k in goes-on g (goes-after ds (apply s d) (apply-good d good) (g .held))
 
   -- ---- the activities alone
+  -- between two threads of a leaving, after the first i of them
+  pub kept-leaving : (i : ℕ) (s : State) {cs : List Activity} → Kept t s cs → i ≤ s .count
+      → Held t (s .q) (s .count) (s .clock .0) (mapTo i (leave (s .clock .0)) (s .threads)) (activities (appOf t) cs (leavingTo (s .clock .0) (s .threads) i))
+  kept-leaving i s k l = goes-leaving-to k i l .held
+
   pub kept-tick : (s : State) {cs : List Activity} → Good s → Kept t s cs → Kept t (stepped s .state) (activities (appOf t) cs (tickOf s))
   kept-tick s good k = goes-tick s good k .held
 

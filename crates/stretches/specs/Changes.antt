@@ -1,7 +1,7 @@
 -- The threads of a table change while the clock stands: what that does to where the applications stand.
 use mathlib.Core.Path.{_≡_, refl}
 use mathlib.Core.List.{List, [], _∷_}
-use Prim.Native.Nat.{ℕ, _+_, _*_, _-_, _≤_, _<_}
+use Prim.Native.Nat.{ℕ, _+_, _*_, _-_, _<_}
 use native.Mathlib.Nat.{mul-le-mul-right}
 use native.Mathlib.Omega.{arith}
 use borrow.Author.Tests.{eqb-true}
@@ -15,27 +15,26 @@ use Rattle.rules.specs.Limits.{apps}
 use Rattle.rules.specs.Threads.{Thread}
 use Rattle.rules.specs.Table.{Table}
 use Rattle.rules.specs.History.{Fate, became-active, became-inactive}
-use Rattle.rules.specs.Stretches.{Activity, activityAt, wakes, rests, noted, Over, ends, overAt, elapsed, lostAs, appOf, shareOf}
+use Rattle.rules.specs.Stretches.{Activity, activityAt, wakes, rests, noted, ends, overAt, elapsed, lostAs, appOf, shareOf}
 use Rattle.promises.specs.Cases.{by-test}
 use Rattle.stretches.specs.Item8.{one, Even}
-use Rattle.stretches.specs.Standing.{ups, downs, Stands, StandsIn, Tied, Low, Held}
+use Rattle.stretches.specs.Standing.{ups, downs, StandsIn, Tied, Low, Held}
 use Rattle.stretches.specs.Stand.{stand-same, stand-wakes, rests-equal, stand-rests}
 use Rattle.stretches.specs.Figures.{none-active, ups-low}
 use Rattle.stretches.specs.Goes.{Goes, goes-one, held-set}
 
--- ---- the application a, whose threads are those of xs and then those of ys: n more of them are active, or n fewer, and W − u × t of
--- these comes to z more
+-- ---- the application a, with the threads of ys instead of those of xs: as many are active, and as far ahead of the clock
 module _ (a now m : ℕ) (xs ys : List Thread) where
   pub record Same : Type 0 where
     pub ones : sumBy (one a) (take m ys) ≡ sumBy (one a) (take m xs)
     pub amounts : sumBy (ups a) (take m ys) + sumBy (downs a now) (take m xs) ≡ sumBy (ups a) (take m xs) + sumBy (downs a now) (take m ys)
 
-  -- one more is active
+  -- one more is active, and they are as far ahead
   pub record Rises : Type 0 where
     pub ones : sumBy (one a) (take m ys) ≡ sumBy (one a) (take m xs) + 1
     pub amounts : sumBy (ups a) (take m ys) + sumBy (downs a now) (take m xs) ≡ sumBy (ups a) (take m xs) + sumBy (downs a now) (take m ys)
 
-  -- one less is active, and W − u × t comes to g more
+  -- one less is active, and they are g further ahead
   pub record Falls (g : ℕ) : Type 0 where
     pub ones : sumBy (one a) (take m xs) ≡ sumBy (one a) (take m ys) + 1
     pub amounts : sumBy (ups a) (take m ys) + sumBy (downs a now) (take m xs) ≡ sumBy (ups a) (take m xs) + sumBy (downs a now) (take m ys) + g
@@ -83,7 +82,7 @@ module _ {t : Table} {q m now : ℕ} {xs : List Thread} {cs : List Activity} (h 
       last : sumBy (one b) (take m ys) ≡ 0 → shareOf b t * elapsed now (c .stretch) ≡ q * c .stretch .granted + up (c .stretch .lost .0 +ℤ pos g)
       last e = let k = none-active b now (take m ys) e in omega (arith, rests-equal s _ _ _ g (r .ones) (r .amounts), k .0, k .1)
 
-      pub evens : All (Even t) (overAt now b (rests (pos g) c))
+      evens : All (Even t) (overAt now b (rests (pos g) c))
       unfolding rests
       evens = by-test (All (Even t)) (eqb (c .active - 1) 0) (λ e. more (λ _. even (eqb-true (c .active - 1) 0 e)) none) (λ _. none)
         where

@@ -20,7 +20,7 @@ use Rattle.stretches.specs.Balance.{same-parts}
 use Rattle.stretches.specs.Goes.{Suits, Suited, still, next}
 use Rattle.stretches.specs.Counts.{Counts, Totals, totals-append, totals-none, other-total, counts-same, counts-runs, counts-wakes, counts-rests, counts-idle}
 
-pos-none : (z : ℤ) → pos 0 +ℤ z ≡ z
+pub pos-none : (z : ℤ) → pos 0 +ℤ z ≡ z
 pos-none z = same-parts _ _ (omega (arith, add-parts (pos 0) z))
 
 -- ---- what one happening grants the application a, and what it loses by it
@@ -114,7 +114,7 @@ counts-then {a} {c} {d} {e} {os} {ps} {g} {k} {y} {z} p q =
           ∙ ap (λ i. i +ℤ lostNow e) (sym (t .1));
     }
 
-noted-length : (app : ℕ → ℕ) (cs : List Activity) (h : Happening) → length (noted app cs h) ≡ length cs
+pub noted-length : (app : ℕ → ℕ) (cs : List Activity) (h : Happening) → length (noted app cs h) ≡ length cs
 unfolding noted
 noted-length app cs (completed i t) = refl
 noted-length app cs (arrived i t) = refl

@@ -9,16 +9,12 @@ use native.Mathlib.Omega.{arith}
 use borrow.Author.Tests.{eq-eqb, ne-eqb, eqb-true, eqb-false}
 use lib.Dec.{eqb}
 use lib.IntN.{ℤ, pos, _+ℤ_}
-use lib.ListN.{length, set, length-set}
-use lib.Seq.{getD-set-same, getD-set-other}
+use lib.ListN.{length}
 use Rattle.integers.specs.Parts.{add-parts}
-use Rattle.lists.specs.MapTo.{map-length, map-has}
-use Rattle.rules.specs.History.{Happening, completed, arrived, dropped-to-head, granted, idle-tick, became-active, became-inactive}
-use Rattle.rules.specs.Stretches.{Stretch, Activity, quiet, activityAt, begins, wakes, runs, rests, forgets, noted, activities, Over, overAt, cutAt, cutTo, ends, stretches, lostAs, lostIn, grantedIn}
+use Rattle.rules.specs.Stretches.{Stretch, Activity, activityAt, begins, wakes, runs, rests, forgets, Over, overAt, cutAt, cutTo}
 use Rattle.promises.specs.Cases.{by-test}
 use Rattle.stretches.specs.Item8.{grantedBy, lostBy, grantedNow, lostNow}
 use Rattle.stretches.specs.Balance.{same-parts}
-use Rattle.stretches.specs.Goes.{Suits, Suited, still, next}
 
 -- ---- the application a, from c to c', with the stretches os over, g ticks granted and z lost
 pub record Counts (a : ℕ) (c c' : Activity) (os : List Over) (g : ℕ) (z : ℤ) : Type 0 where

@@ -1,36 +1,33 @@
 -- A completion, an arrival and a drop: what each does to where the applications stand.
-use mathlib.Core.Path.{_≡_, refl, sym, ap, _∙_, subst}
+use mathlib.Core.Path.{_≡_, refl, sym, ap, _∙_}
 use mathlib.Core.Bool.{Bool, true, false, not, cond}
-use mathlib.Core.List.{List, [], _∷_, _++_}
+use mathlib.Core.List.{List, [], _∷_}
 use Prim.Native.Nat.{ℕ, _+_, _*_, _≤_, _<_}
 use native.Mathlib.Nat.{mul-le-mul-right}
 use native.Mathlib.Omega.{arith}
 use borrow.Author.Tests.{eqb-true, eqb-false}
-use lib.Dec.{T, eqb, ltb}
-use lib.IntN.{ℤ, pos}
+use lib.Dec.{eqb, ltb}
+use lib.IntN.{pos}
 use lib.Signed.{ltZ}
-use lib.ListN.{length, take, set}
+use lib.ListN.{take, set}
 use Rattle.integers.specs.Parts.{up, dn, minus-parts}
 use Rattle.lists.specs.All.{All, none, all-at, all-set}
 use Rattle.rules.specs.Limits.{nobody}
-use Rattle.rules.specs.Threads.{Thread, Phase, Inactive, Contending, NonContending, withJobs, blank, at, scaled, isInactive, contends, active, activeIn, loses, loseAt}
+use Rattle.rules.specs.Threads.{Thread, Phase, Inactive, Contending, NonContending, withJobs, blank, at, scaled, isInactive, active, activeIn, loses, loseAt}
 use Rattle.rules.specs.Table.{Table}
 use Rattle.rules.specs.Completion.{goesOn, stays, ends, freed, takes, receiver, gives, completing}
 use Rattle.rules.specs.Arrival.{arriveAs, arrive}
 use Rattle.rules.specs.Drop.{headOnly}
-use Rattle.rules.specs.History.{Happening, unreceived, received, dropped-to-head, became-active, became-inactive, fateOf}
+use Rattle.rules.specs.History.{unreceived, received, dropped-to-head, became-active, became-inactive, fateOf}
 use Rattle.rules.specs.Stretches.{Activity, noted, ends as over, appOf}
 use Rattle.promises.specs.Cases.{both, both-true}
 use Rattle.promises.specs.Deadlines.{earliest-in}
 use Rattle.promises.specs.Events.{freed-nat}
 use Rattle.stretches.specs.Standing.{Tied, Low, Held}
+use Rattle.stretches.specs.Figures.{T-true}
 use Rattle.stretches.specs.Goes.{Goes, goes-nowhere, goes-one}
 use Rattle.stretches.specs.Changes.{Same, Falls, held-same, goes-wakes, goes-rests}
 use Rattle.stretches.specs.Puts.{low-loses, among, tied-put, put-same, put-other, put-rests, put-wakes, lose-shifts}
-
-T-true : (b : Bool) → T b → b ≡ true
-T-true true h = refl
-T-true false h = absurd h
 
 -- ---- thread i, which is x
 module _ {t : Table} {q m now : ℕ} {xs : List Thread} {cs : List Activity} (h : Held t q m now xs cs) (i : ℕ) (inside : i < m) where

@@ -1,22 +1,22 @@
 -- What a thread adds to the figures of an application, and what one thread in another's place does to them.
-use mathlib.Core.Path.{_≡_, refl, sym, ap, _∙_}
+use mathlib.Core.Path.{_≡_, refl, ap, _∙_}
 use mathlib.Core.Bool.{Bool, true, false, cond, _&&_}
 use mathlib.Core.List.{List, [], _∷_}
 use Prim.Native.Nat.{ℕ, zero, suc, _+_, _*_, _≤_, _<_}
 use native.Mathlib.Omega.{arith}
 use borrow.Author.Tests.{eq-eqb, ne-eqb}
-use lib.Dec.{eqb}
+use lib.Dec.{T}
 use lib.ListN.{length, take, set}
 use Rattle.integers.specs.Parts.{up, dn}
 use Rattle.lists.specs.Sum.{sumBy}
 use Rattle.lists.specs.Take.{sum-put}
-use Rattle.lists.specs.All.{All, none, more}
-use Rattle.rules.specs.Threads.{Thread, blank, at, active, activeIn, freeShare}
+use Rattle.lists.specs.All.{All, more}
+use Rattle.rules.specs.Threads.{Thread, blank, at, active, activeIn}
 use Rattle.promises.specs.Cases.{by-test, and-false}
 use Rattle.stretches.specs.Item8.{one}
 use Rattle.stretches.specs.Standing.{ups, downs, Low}
 
--- x is one of n active threads of the application a, with W − u × t as u − d
+-- x adds n to the active threads of the application a at the moment t, and u − d to what these are ahead of the clock
 pub record Adds (a t : ℕ) (x : Thread) (n u d : ℕ) : Type 0 where
   pub ones : one a x ≡ n
   pub above : ups a x ≡ u
@@ -36,6 +36,10 @@ module _ {a : ℕ} (t : ℕ) (x : Thread) where
 
   pub adds-none : activeIn a x ≡ false → Adds a t x 0 0 0
   adds-none = adds false
+
+pub T-true : (b : Bool) → T b → b ≡ true
+T-true true h = refl
+T-true false h = absurd h
 
 -- ---- whose thread it is
 module _ (a : ℕ) (x : Thread) where

@@ -5,7 +5,6 @@ use mathlib.Core.List.{List, [], _∷_, _++_}
 use Prim.Native.Nat.{ℕ, _<_}
 use native.Mathlib.Decide.{ℕ-discrete}
 use native.Mathlib.Omega.{arith}
-use lib.IntN.{ℤ}
 use lib.ListN.{length, take, set, length-set}
 use lib.Seq.{getD-set-same, getD-set-other}
 use Rattle.lists.specs.All.{All, none, more, all-append}
@@ -45,7 +44,7 @@ module _ (app : ℕ → ℕ) where
   activities-append cs [] ks = refl
   activities-append cs (h ∷ hs) ks = activities-append (noted app cs h) hs ks
 
-  stretches-all : (P : Over → Type 0) (cs : List Activity) (hs ks : List Happening) → All P (stretches app cs hs) → All P (stretches app (activities app cs hs) ks)
+  pub stretches-all : (P : Over → Type 0) (cs : List Activity) (hs ks : List Happening) → All P (stretches app cs hs) → All P (stretches app (activities app cs hs) ks)
       → All P (stretches app cs (hs ++ ks))
   unfolding stretches activities
   stretches-all P cs [] ks a b = b

@@ -2,12 +2,11 @@
 use mathlib.Core.Path.{_≡_, refl, sym, ap, _∙_, subst}
 use mathlib.Core.Bool.{Bool, true, false, not, cond, _&&_}
 use mathlib.Core.List.{List, [], _∷_}
-use Prim.Native.Nat.{ℕ, zero, suc, _+_, _≤_, _<_}
+use Prim.Native.Nat.{ℕ, zero, suc, _≤_, _<_}
 use native.Mathlib.Numerals.{add-one}
 use native.Mathlib.Omega.{arith}
-use lib.IntN.{ℤ}
 use lib.Signed.{ltZ}
-use lib.ListN.{length, take, set}
+use lib.ListN.{length, set}
 use Rattle.lists.specs.MapTo.{mapTo, map-at, map-more}
 use Rattle.lists.specs.All.{all-at, all-set}
 use Rattle.rules.specs.Threads.{Thread, State, Phase, Inactive, Contending, NonContending, withRows, blank, at, scaled, idle, isInactive, isNon}
@@ -16,7 +15,7 @@ use Rattle.rules.specs.Leaving.{leave, gone}
 use Rattle.rules.specs.Completion.{freed}
 use Rattle.rules.specs.History.{Happening, left, became-inactive, leaving, leavingTo, leavings}
 use Rattle.rules.specs.Stretches.{Activity, activities, appOf}
-use Rattle.promises.specs.Cases.{by-test, true-false}
+use Rattle.promises.specs.Cases.{true-false}
 use Rattle.promises.specs.Events.{freed-nat}
 use Rattle.stretches.specs.Standing.{Low, Held, Kept}
 use Rattle.stretches.specs.Goes.{Goes, goes-nowhere, goes-on}

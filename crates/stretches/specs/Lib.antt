@@ -1,8 +1,8 @@
 pub mod Item8
 pub mod Standing
-pub mod Bounds
 pub mod Stand
 pub mod Figures
+pub mod Bounds
 pub mod Goes
 pub mod Changes
 pub mod Puts
@@ -16,3 +16,7 @@ pub mod Start
 pub mod Balance
 pub mod Counts
 pub mod Counted
+pub mod Lasting
+pub mod Lasted
+pub mod Duration
+pub mod Proved

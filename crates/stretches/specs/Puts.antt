@@ -1,23 +1,21 @@
 -- One thread of a table in another's place: it stays active or inactive, becomes inactive and loses or gives what it frees, or
 -- becomes active.
 use mathlib.Core.Path.{_≡_, refl, sym, ap, _∙_, subst}
-use mathlib.Core.Bool.{true, false, cond}
+use mathlib.Core.Bool.{true, false}
 use mathlib.Core.List.{List}
-use Prim.Native.Nat.{ℕ, _+_, _*_, _≤_, _<_}
+use Prim.Native.Nat.{ℕ, _+_, _*_, _<_}
 use native.Mathlib.Omega.{arith}
 use lib.IntN.{pos}
-use lib.ListN.{length, take, set, length-set}
-use Rattle.integers.specs.Parts.{up, dn, sub-parts, minus-parts}
+use lib.ListN.{length, set, length-set}
+use Rattle.integers.specs.Parts.{up, dn, sub-parts}
 use Rattle.lists.specs.Sum.{sum-store}
 use Rattle.lists.specs.Take.{at-put}
-use Rattle.lists.specs.All.{All, all-at, all-set}
 use Rattle.rules.specs.Threads.{Thread, blank, at, active, activeIn, loses}
 use Rattle.rules.specs.Table.{Table}
 use Rattle.rules.specs.Stretches.{appOf}
-use Rattle.promises.specs.Cases.{true-T, both-true}
 use Rattle.stretches.specs.Item8.{one}
 use Rattle.stretches.specs.Standing.{ups, downs, Tied, Low}
-use Rattle.stretches.specs.Figures.{Adds, adds-one, adds-none, own-active, rests-in, other-in, Shifts, shifts}
+use Rattle.stretches.specs.Figures.{adds-one, adds-none, own-active, rests-in, other-in, Shifts, shifts}
 use Rattle.stretches.specs.Changes.{Same, Rises, Falls}
 
 -- threads of the same applications and shares are tied to the same table
@@ -33,9 +31,6 @@ tied-like k l f = record {
   app-max = k .app-max;
   share-max = k .share-max;
 }
-
-pub same-same : {a now m : ℕ} {xs : List Thread} → Same a now m xs xs
-same-same = record { ones = refl; amounts = refl }
 
 -- what loses some of its W is no higher
 pub low-loses : (q now r : ℕ) (x : Thread) → Low q now x → Low q now (loses (pos r) x)
@@ -54,7 +49,6 @@ module _ {t : Table} {q m : ℕ} {xs : List Thread} (k : Tied t q m xs) (i : ℕ
     pub put-same : (a now : ℕ) → active v ≡ active (at xs i) → v .w ≡ at xs i .w → Same a now m xs (set xs i v)
     unfolding ups downs
     put-same a now p w =
-        let e : activeIn a v ≡ activeIn a (at xs i) = rw (p, app-is) refl in
         let o = sum-store (one a) m xs i v blank (rw (p, app-is) refl) in
         let u = sum-store (ups a) m xs i v blank (rw (p, app-is, w) refl) in
         let d = sum-store (downs a now) m xs i v blank (rw (p, app-is, w, share-is) refl) in

@@ -1,13 +1,13 @@
 -- The shares of an application: those of its active threads and its free share come to its total share, by the rows of the table.
-use mathlib.Core.Path.{_≡_, refl, sym, ap}
+use mathlib.Core.Path.{_≡_, refl}
 use mathlib.Core.Bool.{Bool, true, false, not, cond, _&&_}
 use mathlib.Core.List.{List, [], _∷_}
-use Prim.Native.Nat.{ℕ, zero, suc, _+_, _*_, _≤_, _<_}
+use Prim.Native.Nat.{ℕ, zero, suc, _+_, _*_, _≤_}
 use native.Mathlib.Numerals.{add-one}
 use native.Mathlib.Omega.{arith}
 use lib.Dec.{eqb}
-use lib.ListN.{length, take}
-use Rattle.integers.specs.Parts.{up, dn}
+use lib.ListN.{take}
+use Rattle.integers.specs.Parts.{dn}
 use Rattle.lists.specs.Sum.{sumBy, sum-none, sum-more, sum-le}
 use Rattle.rules.specs.Threads.{Thread, blank, at, isInactive, freeShare}
 use Rattle.rules.specs.Table.{Table, rowAt}

@@ -1,14 +1,13 @@
 -- What each happening does to where one application stands, in numbers alone.
 use mathlib.Core.Path.{_≡_, refl, ap}
-use mathlib.Core.Bool.{cond}
 use Prim.Native.Nat.{ℕ, _+_, _*_, _-_, _≤_, _<_}
 use native.Mathlib.Nat.{mul-le-mul}
 use native.Mathlib.Omega.{arith}
 use borrow.Author.Tests.{eqb-true, eqb-false}
 use lib.Dec.{eqb}
-use lib.IntN.{ℤ, pos, _+ℤ_}
-use Rattle.integers.specs.Parts.{up, dn, Sum, add-parts}
-use Rattle.rules.specs.Stretches.{Activity, Stretch, begins, wakes, runs, rests, forgets, elapsed}
+use lib.IntN.{pos, _+ℤ_}
+use Rattle.integers.specs.Parts.{up, Sum, add-parts}
+use Rattle.rules.specs.Stretches.{Activity, Stretch, wakes, runs, rests, forgets, elapsed}
 use Rattle.promises.specs.Cases.{by-test}
 use Rattle.stretches.specs.Standing.{Stands}
 

@@ -21,7 +21,7 @@ ups a x = cond (activeIn a x) (up (x .w .0)) 0
 unfoldable pub downs : ℕ → ℕ → Thread → ℕ
 downs a t x = cond (activeIn a x) (dn (x .w .0) + x .share * t) 0
 
--- ---- an application at the moment t: n of its threads are active, and W − u × t of these come to u − d
+-- ---- an application at the moment t: n of its threads are active, and what these are ahead of the clock comes to u − d
 pub record Stands (q share t n u d : ℕ) (c : Activity) : Type 0 where
   pub active : c .active ≡ n
   -- no more ticks are granted than elapse

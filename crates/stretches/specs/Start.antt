@@ -1,16 +1,16 @@
 -- The fresh start of an admitted table: no thread is active, and no application has a stretch.
-use mathlib.Core.Path.{_≡_, refl, sym, ap, _∙_, subst}
+use mathlib.Core.Path.{_≡_, refl, sym, ap, subst}
 use mathlib.Core.Bool.{Bool, true, false, cond}
 use mathlib.Core.List.{List}
-use Prim.Native.Nat.{ℕ, zero, suc, _+_, _≤_, _<_}
+use Prim.Native.Nat.{ℕ, zero, suc, _≤_, _<_}
 use native.Mathlib.Omega.{arith}
 use lib.Dec.{eqb}
-use lib.ListN.{getD, take, replicate, length-replicate}
+use lib.ListN.{take, replicate, length-replicate}
 use Rattle.lists.specs.Sum.{sumBy}
 use Rattle.rules.specs.Limits.{maxThreads, apps}
 use Rattle.rules.specs.Threads.{blank, at}
 use Rattle.rules.specs.Table.{Row, Table, Done, headAnswer, rowAt, sharesTo, rowsAnswer, tableAnswer, opened, start}
-use Rattle.rules.specs.Stretches.{Activity, quiet, allQuiet, activityAt, shareTo}
+use Rattle.rules.specs.Stretches.{quiet, allQuiet, activityAt, shareTo}
 use Rattle.promises.specs.Good.{Good}
 use Rattle.promises.specs.Keep.{fine-at}
 use Rattle.promises.specs.Begin.{both-done, head-admitted, shares-within, opened-at, start-good}
@@ -19,7 +19,7 @@ use Rattle.stretches.specs.Standing.{Tied, Kept}
 use Rattle.stretches.specs.Benefits.{sum-zero}
 use Rattle.stretches.specs.Ticks.{low-all}
 
-quiet-at : (n a : ℕ) → activityAt (replicate n quiet) a ≡ quiet
+pub quiet-at : (n a : ℕ) → activityAt (replicate n quiet) a ≡ quiet
 quiet-at zero a = refl
 quiet-at (suc n) zero = refl
 quiet-at (suc n) (suc a) = quiet-at n a

@@ -1,26 +1,26 @@
 -- A tick: fitting, the charge or the idle tick, and the clock; what they do to where the applications stand.
-use mathlib.Core.Path.{_≡_, refl, sym, ap, _∙_, subst}
-use mathlib.Core.Bool.{true, false, not}
+use mathlib.Core.Path.{_≡_, refl, sym, _∙_, subst}
+use mathlib.Core.Bool.{true, not}
 use mathlib.Core.List.{List, [], _∷_}
-use Prim.Native.Nat.{ℕ, zero, suc, _+_, _*_, _-_, _≤_, _<_}
+use Prim.Native.Nat.{ℕ, zero, suc, _+_, _*_, _≤_, _<_}
 use native.Mathlib.Nat.{le-refl, not-suc-le-zero, le-of-suc-le-suc}
 use native.Mathlib.Omega.{arith}
 use lib.Dec.{T, eqb}
 use lib.IntN.{ℤ, pos}
-use lib.ListN.{length, take, set, length-set}
+use lib.ListN.{length, take, set}
 use Rattle.integers.specs.Parts.{up, dn, plus-parts}
 use Rattle.lists.specs.Sum.{sumBy, sum-map, sum-store}
 use Rattle.lists.specs.Take.{sum-at}
 use Rattle.lists.specs.MapTo.{mapTo, map-length, map-keeps, map-has}
 use Rattle.lists.specs.All.{All, none, more, all-append, all-map}
 use Rattle.rules.specs.Limits.{nobody, apps}
-use Rattle.rules.specs.Threads.{Thread, State, Phase, Inactive, Contending, NonContending, blank, at, isInactive, isContending, idle, contends, active, activeIn, loses, freeShare, freeOf}
+use Rattle.rules.specs.Threads.{Thread, State, Phase, Inactive, Contending, NonContending, blank, at, isInactive, isContending, idle, active, activeIn, loses, freeShare, freeOf}
 use Rattle.rules.specs.Table.{Table}
-use Rattle.rules.specs.Fitting.{fit, fitIn, fitted, roomOf}
+use Rattle.rules.specs.Fitting.{fitIn, fitted, roomOf}
 use Rattle.rules.specs.Choice.{idled}
 use Rattle.rules.specs.Charge.{gains, benefits, charged, moved}
 use Rattle.rules.specs.History.{granted, idle-tick}
-use Rattle.rules.specs.Stretches.{Activity, quiet, activityAt, forgets, runs, noted, Over, cutAt, cutTo, ends, appOf, shareOf}
+use Rattle.rules.specs.Stretches.{Activity, quiet, activityAt, forgets, runs, noted, cutTo, ends, appOf, shareOf}
 use Rattle.promises.specs.Cases.{by-test, true-false}
 use Rattle.promises.specs.Branches.{by-fitting}
 use Rattle.promises.specs.Good.{Fine, Rows}
@@ -30,12 +30,12 @@ use Rattle.stretches.specs.Item8.{one, Even}
 use Rattle.stretches.specs.Standing.{ups, downs, StandsIn, Tied, Low, Held, Kept}
 use Rattle.stretches.specs.Stand.{stand-runs, stand-waits, stand-forgets}
 use Rattle.stretches.specs.Figures.{Shifts, shifts, adds-one, own-active}
-use Rattle.stretches.specs.Goes.{Goes, goes-one, held-set}
+use Rattle.stretches.specs.Goes.{goes-one, held-set}
 use Rattle.stretches.specs.Changes.{held-same}
 use Rattle.stretches.specs.Puts.{tied-like, among, tied-put, put-other}
 use Rattle.stretches.specs.Leavings.{GoesTo}
 use Rattle.stretches.specs.Benefits.{due-own, due-other, tied-benefits, due}
-use Rattle.stretches.specs.Shares.{ownShare, downs-later, own-shares, free-part}
+use Rattle.stretches.specs.Shares.{downs-later, own-shares, free-part}
 
 -- ---- a change of every thread
 -- y has the application, the share and the W of x, and is as active
