@@ -1,5 +1,5 @@
 -- Events that are noted: a completion and an arrival, as the code finds them.
-use mathlib.Core.Path.{_≡_, refl, sym, ap, _∙_, subst}
+use mathlib.Core.Path.{_≡_, refl, sym, ap, _∙_}
 use mathlib.Core.Bool.{Bool, true, false, not, cond, _&&_}
 use mathlib.Core.List.{List, [], _∷_, _++_}
 use Prim.Native.Nat.{ℕ, zero, suc, _+_, _≤_, _<_}
@@ -9,7 +9,7 @@ use borrow.Author.Tests.{ne-eqb}
 use lib.Dec.{eqb, ltb}
 use lib.IntN.{pos, _*ℤ_}
 use lib.Signed.{ltZ}
-use lib.ListN.{length, set}
+use lib.ListN.{set}
 use Rattle.lists.specs.MapTo.{mapTo, map-has}
 use Rattle.quantities.specs.declared.Moment.{Moment}
 use Rattle.rules.specs.Limits.{nobody, maxThreads, apps}
@@ -19,7 +19,7 @@ use Rattle.rules.specs.Leaving.{leave, gone}
 use Rattle.rules.specs.Completion.{ends as ended, takes, freed, completion}
 use Rattle.rules.specs.Arrival.{arrival}
 use Rattle.rules.specs.Drop.{dropped}
-use Rattle.rules.specs.History.{Happening, Fate, received, unreceived, completed, arrived, dropped-to-head, ifDone, became-active, became-inactive, fateOf, receiverIn, retiring, leaves, leavings, waking, happens}
+use Rattle.rules.specs.History.{Fate, received, unreceived, completed, arrived, dropped-to-head, ifDone, became-active, became-inactive, fateOf, receiverIn, retiring, leaves, leavings, waking, happens}
 use Rattle.rules.specs.Stretches.{Activity, activityAt, lostAs, rests, wakes, noted, ends, overAt, appOf}
 use Rattle.rules.specs.Report.{overLines, stand}
 use Rattle.rules.specs.Calls as calls
@@ -29,7 +29,6 @@ use Rattle.promises.specs.Good.{Good, Leads}
 use Rattle.promises.specs.Ready.{gone-beside}
 use Rattle.stretches.specs.Standing.{Kept}
 use Rattle.stretches.specs.Bounds.{in-range}
-use Rattle.stretches.specs.Goes.{Goes}
 use Rattle.stretches.specs.Events.{goes-completing}
 use Rattle.stretches.specs.Ticks.{runs-active}
 use Rattle.stretches.specs.Calls.{kept-gone}

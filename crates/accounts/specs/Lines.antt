@@ -2,7 +2,7 @@
 use mathlib.Core.Path.{_≡_, refl, sym, ap, _∙_, subst}
 use mathlib.Core.Bool.{Bool, true, false, cond}
 use mathlib.Core.List.{List, [], _∷_, _++_, append-nil}
-use Prim.Native.Nat.{ℕ, zero, suc, _+_, _*_, _-_, _^_, _≤_, _<_}
+use Prim.Native.Nat.{ℕ, zero, suc, _+_, _*_, _≤_, _<_}
 use native.Mathlib.Decide.{ℕ-discrete}
 use native.Mathlib.Numerals.{add-one}
 use native.Mathlib.Omega.{arith}
@@ -11,12 +11,12 @@ use lib.IntN.{ℤ, pos, _+ℤ_, _-ℤ_}
 use lib.ListN.{length}
 use mir.Syntax.{w64}
 use mir.Val.{SFits}
-use Rattle.integers.specs.Parts.{up, dn, sub-parts, sfits-parts}
+use Rattle.integers.specs.Parts.{sub-parts, sfits-parts}
 use Rattle.rules.specs.Limits.{maxQ, maxThreads, apps, clockEnd}
 use Rattle.rules.specs.Threads.{Thread, Amount, amt}
 use Rattle.rules.specs.Table.{Table, Row, rowAt}
-use Rattle.rules.specs.Stretches.{Activity, Stretch, Over, activityAt, shareTo, shareOf, elapsed, balance, overAt, cutAt, cutTo}
-use Rattle.rules.specs.Report.{stretchLine, overLine, overLines, openLine, openLines}
+use Rattle.rules.specs.Stretches.{Activity, Stretch, activityAt, shareTo, shareOf, elapsed, balance, overAt, cutAt, cutTo}
+use Rattle.rules.specs.Report.{stretchLine, overLines, openLine, openLines}
 use Rattle.text.specs.declared.report.How.{How}
 use Rattle.text.specs.declared.report.How.the-variants.{Over as AsOver, Idle, Open}
 use Rattle.text.specs.Put.{Put}

@@ -1,12 +1,12 @@
 -- A thread becomes inactive: what the code needs for it, from where the applications stand before and after.
-use mathlib.Core.Path.{_≡_, refl, sym, ap, _∙_, subst}
+use mathlib.Core.Path.{_≡_, sym, subst}
 use mathlib.Core.Bool.{true, false, cond}
-use mathlib.Core.List.{List, [], _∷_, _++_, append-nil}
-use Prim.Native.Nat.{ℕ, suc, _+_, _*_, _≤_, _<_}
+use mathlib.Core.List.{List, [], _∷_}
+use Prim.Native.Nat.{ℕ, _+_, _*_, _≤_, _<_}
 use native.Mathlib.Numerals.{add-one}
 use native.Mathlib.Omega.{arith}
 use lib.IntN.{ℤ, _+ℤ_}
-use lib.ListN.{length, set}
+use lib.ListN.{set}
 use lib.Seq.{getD-set-same}
 use mir.Syntax.{w64}
 use mir.Val.{SFits}
@@ -16,16 +16,16 @@ use Rattle.rules.specs.Threads.{Thread, State, Amount, amt, blank, at}
 use Rattle.rules.specs.Table.{Table}
 use Rattle.rules.specs.Leaving.{leave}
 use Rattle.rules.specs.Completion.{freed}
-use Rattle.rules.specs.History.{Fate, left, Happening, became-inactive, leaves, leaving, leavingTo, leavings}
+use Rattle.rules.specs.History.{Fate, left, became-inactive, leaves, leaving, leavingTo, leavings}
 use Rattle.rules.specs.Stretches.{Activity, quiet, activityAt, lostAs, rests, noted, activities, ends, overAt, appOf}
 use Rattle.rules.specs.Report.{overLines, stand}
 use Rattle.promises.specs.Good.{Good}
 use Rattle.stretches.specs.Standing.{Held, Kept}
-use Rattle.stretches.specs.Goes.{Suits, Suited, still, next, Goes}
+use Rattle.stretches.specs.Goes.{Suits, Suited, next, Goes}
 use Rattle.stretches.specs.Leavings.{goes-leaving, goes-leaving-to}
 use Rattle.text.specs.Put.{Put}
 use Rattle.text.specs.Wide.{wide}
-use Rattle.accounts.specs.Told.{Tells, tells-none, tells-one, tells-then, put-length}
+use Rattle.accounts.specs.Told.{Tells, tells-none, tells-one, tells-then}
 use Rattle.accounts.specs.Lines.{Lined, lined, lost-fits}
 
 -- thread i becomes inactive at the moment now, and z is lost

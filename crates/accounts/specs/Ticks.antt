@@ -1,9 +1,8 @@
 -- Ticks that are noted one after the other.
 use mathlib.Core.Path.{_≡_, refl, sym, ap, _∙_, subst}
-use mathlib.Core.Bool.{true, false, cond}
-use mathlib.Core.List.{List, [], _∷_, _++_}
-use Prim.Native.Nat.{ℕ, suc, _+_, _*_, _≤_, _<_}
-use native.Mathlib.Decide.{ℕ-discrete}
+use mathlib.Core.Bool.{cond}
+use mathlib.Core.List.{List, [], _∷_}
+use Prim.Native.Nat.{ℕ, _+_, _≤_, _<_}
 use native.Mathlib.Numerals.{add-one}
 use native.Mathlib.Omega.{arith}
 use borrow.Author.Count.{below-none, below-more}
@@ -28,12 +27,11 @@ use Rattle.rules.specs.Report.{overLines, told, stand}
 use Rattle.promises.specs.Branches.{by-step}
 use Rattle.promises.specs.Good.{Good}
 use Rattle.promises.specs.Ready.{ready-ready, chosen-leads, gone-beside, ready-beside}
-use Rattle.promises.specs.Always.{given-good, given-steps, steps-good}
-use Rattle.promises.specs.Taken.{steps-clock, steps-early}
+use Rattle.promises.specs.Always.{given-good, given-steps}
+use Rattle.promises.specs.Taken.{steps-early}
 use Rattle.stretches.specs.Standing.{Kept}
 use Rattle.stretches.specs.Calls.{kept-gone, kept-ticks}
 use Rattle.text.specs.Put.{Put}
-use Rattle.text.specs.Wide.{wide}
 use Rattle.text.specs.declared.report.How.the-variants.{Idle}
 use Rattle.accounts.specs.Told.{room, put-as, put-length, Tells, tells-none, tells-one, tells-then}
 use Rattle.accounts.specs.Lines.{Lined, lined, heldLines, held-idle}

@@ -1,7 +1,7 @@
 -- A part of the history that is told: its lines are put, and the applications stand where it leads.
 use mathlib.Core.Path.{_≡_, refl, sym, ap, _∙_, subst}
 use mathlib.Core.List.{List, [], _∷_, _++_, append-assoc, append-nil}
-use Prim.Native.Nat.{ℕ, _+_, _≤_}
+use Prim.Native.Nat.{ℕ}
 use native.Mathlib.Nat.{add-zero}
 use native.Mathlib.Omega.{arith}
 use lib.ListN.{length, length-append}
@@ -11,6 +11,7 @@ use Rattle.rules.specs.Table.{Table}
 use Rattle.rules.specs.History.{Happening}
 use Rattle.rules.specs.Stretches.{Activity, Over, noted, activities, ends, stretches, appOf}
 use Rattle.rules.specs.Report.{overLine, overLines, told, stand}
+use Rattle.stretches.specs.Goes.{activities-append}
 use Rattle.text.specs.Put.{Put}
 
 -- there is room for all lines of a tick, or of an event
@@ -19,11 +20,6 @@ room = 16384
 
 -- ---- a history goes on from where it was
 module _ (app : ℕ → ℕ) where
-  pub activities-append : (cs : List Activity) (hs ks : List Happening) → activities app cs (hs ++ ks) ≡ activities app (activities app cs hs) ks
-  unfolding activities
-  activities-append cs [] ks = refl
-  activities-append cs (h ∷ hs) ks = activities-append (noted app cs h) hs ks
-
   pub stretches-append : (cs : List Activity) (hs ks : List Happening) → stretches app cs (hs ++ ks) ≡ stretches app cs hs ++ stretches app (activities app cs hs) ks
   unfolding stretches activities
   stretches-append cs [] ks = refl

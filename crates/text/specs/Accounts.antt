@@ -1,5 +1,5 @@
 -- The line of a stretch, of its numbers, in the parts in which it is put; and how long it is.
-use mathlib.Core.Path.{_≡_, refl, ap, _∙_}
+use mathlib.Core.Path.{_≡_, refl, ap}
 use mathlib.Core.List.{List, [], _∷_, _++_, append-assoc}
 use Prim.Native.Nat.{ℕ, _+_, _^_, _<_, _≤_}
 use native.Mathlib.Omega.{arith}
@@ -12,7 +12,7 @@ use Rattle.rules.specs.Report.{reportHeading}
 use Rattle.rules.specs.Stretches.{Stretch}
 use Rattle.text.specs.declared.report.How.{How}
 use Rattle.text.specs.declared.report.How.the-variants.{Over, Idle, Open}
-use Rattle.text.specs.Put.{ended, longest}
+use Rattle.text.specs.Put.{ended}
 use Rattle.text.specs.Laws.{decimal-16, decimal-32, decimal-64, signed-64, ended-length}
 use Rattle.text.specs.Wide.{wide}
 

@@ -1,5 +1,5 @@
 -- The line of a stretch in a lent slice of bytes: as a text of the listing, with more room.
-use mathlib.Core.Path.{_≡_, refl}
+use mathlib.Core.Path.{_≡_}
 use mathlib.Core.Bool.{cond}
 use mathlib.Core.List.{List}
 use Prim.Native.Nat.{ℕ, _+_, _≤_, _<_}

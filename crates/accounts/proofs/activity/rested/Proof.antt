@@ -1,4 +1,3 @@
-use mathlib.Core.Path.{refl}
 use Rattle.rules.specs.Stretches.{rests}
 use borrow.Author.Needs.{needs}
 use Rattle.accounts.proofs.activity.rested.Statement.{statement}

@@ -1,4 +1,3 @@
-use mathlib.Core.Path.{_≡_}
 use native.Mathlib.Omega.{arith}
 use Rattle.promises.specs.Always.{given-good}
 use Rattle.accounts.specs.Told.{tells-none}

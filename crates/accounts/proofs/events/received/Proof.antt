@@ -1,14 +1,13 @@
 use Rattle.accounts.specs.Events.{received-is}
 use borrow.Author.Needs.{needs}
-use mathlib.Core.Path.{_≡_, refl, sym, ap, _∙_}
+use mathlib.Core.Path.{_≡_, refl, sym, _∙_}
 use mathlib.Core.Logic.{⊎-elim}
-use Prim.Native.Nat.{_+_, _-_, _≤_}
+use Prim.Native.Nat.{_-_, _≤_}
 use native.Mathlib.Omega.{arith}
 use Rattle.rules.specs.Completion.{takes}
-use Rattle.rules.specs.Threads.{withRows}
 use Rattle.promises.specs.Ready.{steady}
 use Rattle.promises.specs.Sound.{sound, ended-sound}
-use Rattle.accounts.specs.Events.{someTo, some-more, some-earliest}
+use Rattle.accounts.specs.Events.{someTo, some-more}
 use Rattle.accounts.proofs.events.received.Statement.{statement}
 use Rattle.accounts.proofs.events.received.Tie as tie
 

@@ -1,4 +1,3 @@
-use mathlib.Core.Path.{refl}
 use native.Mathlib.Omega.{arith}
 use native.Mathlib.Nat.{mul-le-mul}
 use Prim.Native.Nat.{_*_, _^_, _≤_}
@@ -6,7 +5,6 @@ use lib.Dec.{lit<}
 use lib.IntN.{pos}
 use mir.Syntax.{w64}
 use Rattle.integers.specs.Parts.{small-sub}
-use Rattle.rules.specs.Limits.{maxQ}
 use borrow.Author.Needs.{needs}
 use Rattle.accounts.proofs.leaving.freed.Statement.{statement}
 use Rattle.accounts.proofs.leaving.freed.Tie as tie

@@ -1,11 +1,10 @@
 use borrow.Author.Needs.{needs}
-use mathlib.Core.Path.{_≡_, sym, _∙_}
+use mathlib.Core.Path.{sym, _∙_}
 use mathlib.Core.Logic.{⊎-elim}
-use mathlib.Core.Bool.{true, false}
 use Prim.Native.Nat.{_+_, _-_}
 use native.Mathlib.Omega.{arith}
 use Rattle.promises.specs.Ready.{steady}
-use Rattle.promises.specs.Sound.{RowOk, sound}
+use Rattle.promises.specs.Sound.{sound}
 use Rattle.accounts.specs.Told.{put-length}
 use Rattle.accounts.specs.Rest.{Left, left-none, left-rests, left-stays, left-goes, left-all, left-closed}
 use Rattle.accounts.proofs.leaving.leaving.Statement.{statement}

@@ -1,10 +1,8 @@
-use mathlib.Core.Path.{_≡_, ap, _∙_}
-use native.Mathlib.Omega.{arith}
+use mathlib.Core.Path.{ap}
 use lib.ListN.{set}
 use Rattle.rules.specs.Stretches.{Activity, appOf, overAt}
 use Rattle.rules.specs.Report.{overLines}
 use Rattle.accounts.specs.Told.{put-as}
-use Rattle.accounts.specs.Lines.{Lined}
 use borrow.Author.Needs.{needs}
 use Rattle.accounts.proofs.leaving.rest.Statement.{statement}
 use Rattle.accounts.proofs.leaving.rest.Tie as tie

@@ -1,7 +1,6 @@
 use borrow.Author.Tests.{eq-eqb, ne-eqb}
 use native.Mathlib.Omega.{arith}
-use mathlib.Core.Path.{sym, _∙_}
-use Rattle.accounts.specs.Told.{put-none, put-as}
+use Rattle.accounts.specs.Told.{put-none}
 use borrow.Author.Needs.{needs}
 use Rattle.accounts.proofs.lines.held.Statement.{statement}
 use Rattle.accounts.proofs.lines.held.Tie as tie

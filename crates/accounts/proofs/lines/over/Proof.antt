@@ -1,6 +1,5 @@
 use borrow.Author.Tests.{eq-eqb, ne-eqb}
 use native.Mathlib.Omega.{arith}
-use mathlib.Core.Path.{sym, _∙_}
 use Rattle.accounts.specs.Told.{put-none, put-as}
 use Rattle.accounts.specs.Lines.{over-none, over-one}
 use borrow.Author.Needs.{needs}

@@ -1,5 +1,4 @@
-use borrow.Author.Needs.{needs}
-use mathlib.Core.Path.{_≡_, ap, _∙_}
+use mathlib.Core.Path.{_≡_, ap}
 use Prim.Native.Nat.{_+_, _-_, _≤_}
 use native.Mathlib.Omega.{arith}
 use borrow.Author.Tests.{leb-true, leb-false}
@@ -10,7 +9,7 @@ use Rattle.rules.specs.Calls.{Given}
 use Rattle.promises.specs.Always.{given-good}
 use Rattle.stretches.specs.Standing.{Kept}
 use Rattle.accounts.specs.Told.{room, put-length}
-use Rattle.accounts.specs.Ticks.{Noted, taken-by, tells-tick, noted-none, same-room, noted-more, noted-to, kept-at, given-at, early-at}
+use Rattle.accounts.specs.Ticks.{Noted, taken-by, tells-tick, noted-none, noted-more, noted-to, kept-at, given-at, early-at}
 use Rattle.accounts.proofs.ticks.ticks.Statement.{statement}
 use Rattle.accounts.proofs.ticks.ticks.Tie as tie
 

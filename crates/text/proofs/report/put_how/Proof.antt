@@ -1,7 +1,6 @@
 use borrow.Author.Needs.{needs}
 use mathlib.Core.Path.{sym, ap}
 use Rattle.rules.specs.Listing.{bytes}
-use Rattle.text.specs.declared.report.How.the-variants.{Over, Idle, Open}
 use Rattle.text.specs.Accounts.{howText}
 use Rattle.text.proofs.Chain.{same-text}
 use Rattle.text.proofs.report.put_how.Statement.{statement}
