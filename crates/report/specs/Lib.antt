@@ -1,3 +1,4 @@
 pub mod Folds
 pub mod Fuel
+pub mod Rests
 pub mod Tallies

@@ -13,8 +13,8 @@ use Rattle.rules.specs.Input.{readings}
 use Rattle.rules.specs.Stretches.{Activity, allQuiet}
 use Rattle.rules.specs.Report.{stand, ticksFor, atMoment, reportFrom}
 use Rattle.windows.specs.Advance.{widest, farthest}
-pub use Rattle.report.specs.declared.tally.Tally.{Tally}
-pub use Rattle.report.specs.declared.tally.TallyTurn.{TallyTurn}
+pub use Rattle.report.specs.declared.Tally.{Tally}
+pub use Rattle.report.specs.declared.TallyTurn.{TallyTurn}
 
 -- a call that has less room left writes nothing more; what is written before the next byte of the input is taken is shorter
 abbrev pub roomy : ℕ
