@@ -2,3 +2,5 @@ pub mod Folds
 pub mod Fuel
 pub mod Rests
 pub mod Tallies
+pub mod Along
+pub mod Windows

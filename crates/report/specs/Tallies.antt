@@ -1,18 +1,15 @@
 -- How far a report has come, and what is still to be written from there.
 use mathlib.Core.Path.{_≡_}
-use mathlib.Core.Bool.{Bool, true, false, cond}
-use mathlib.Core.List.{List, [], _∷_, _++_}
-use Prim.Native.Nat.{ℕ, _+_, _≤_, _<_}
-use lib.ListN.{length, drop}
-use lib.Seq.{sets}
-use Rattle.rules.specs.Threads.{State}
+use mathlib.Core.Bool.{true, false, cond}
+use mathlib.Core.List.{List, [], _∷_}
+use Prim.Native.Nat.{ℕ}
+use lib.ListN.{length}
 use Rattle.rules.specs.Table.{Answer, Done, Refused}
 use Rattle.rules.specs.Records.{Record}
-use Rattle.rules.specs.Reading.{Reading, fresh, withState, recordRead}
+use Rattle.rules.specs.Reading.{Reading, fresh, recordRead}
 use Rattle.rules.specs.Input.{readings}
 use Rattle.rules.specs.Stretches.{Activity, allQuiet}
 use Rattle.rules.specs.Report.{stand, ticksFor, atMoment, reportFrom}
-use Rattle.windows.specs.Advance.{widest, farthest}
 pub use Rattle.report.specs.declared.Tally.{Tally}
 pub use Rattle.report.specs.declared.TallyTurn.{TallyTurn}
 
@@ -55,18 +52,3 @@ pub record GivenTally (p : Tally) : Type 0 where
   pub records : List Record
   pub reading : p .reading ≡ readings fresh records
   pub activities : p .activities ≡ standings fresh allQuiet records
-
--- ---- what a part of the window brings
--- from byte `from` on of the window w up to `to` the text brings the report from p to q, whatever the input has behind the window
-abbrev pub Brings : Bool → List ℕ → ℕ → Tally → List ℕ → ℕ → Tally → Type 0
-Brings last w from p text to q = (more : List ℕ) → (last ≡ true → more ≡ []) → restOf p (drop from w ++ more) ≡ text ++ restOf q (drop to w ++ more)
-
--- where a call stands: the byte of the window, the byte of the output, and how far the report has come
-pub record Along (last : Bool) (w out : List ℕ) (from used : ℕ) (p : Tally) (out′ : List ℕ) (from′ used′ : ℕ) (q : Tally) : Type 0 where
-  pub text : List ℕ
-  pub stored : out′ ≡ sets out used text
-  pub writes : used′ ≡ used + length text
-  pub takes : from ≤ from′
-  pub within : from′ ≤ length w
-  pub room : used′ ≤ length out
-  pub brings : Brings last w from p text from′ q
