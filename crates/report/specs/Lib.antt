@@ -4,3 +4,5 @@ pub mod Rests
 pub mod Tallies
 pub mod Along
 pub mod Windows
+pub mod Given
+pub mod Turns
