@@ -7,7 +7,7 @@
 --   plus lost."
 --
 -- This file says it, as `Promised` at its end; Proved.antt has `item-8`, which proves it. It holds after every call, so between
--- any two events, and not only after leaving.
+-- any two events, and not only after leaving. Duration.antt has, beside it, that every stretch that is over lasted at least one tick.
 use mathlib.Core.Path.{_≡_}
 use mathlib.Core.Bool.{false, cond}
 use mathlib.Core.List.{List, [], _∷_, _++_}
