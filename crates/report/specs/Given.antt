@@ -6,7 +6,7 @@ use Prim.Native.Nat.{ℕ, _+_, _-_, _≤_}
 use native.Mathlib.Omega.{arith}
 use borrow.Author.Tests.{le-ltb}
 use Rattle.rules.specs.Limits.{clockEnd}
-use Rattle.rules.specs.Table.{Answer, Done, Refused}
+use Rattle.rules.specs.Table.{Done}
 use Rattle.rules.specs.Run.{stateAfter}
 use Rattle.rules.specs.Records.{Record, RunTo, moment}
 use Rattle.rules.specs.Reading.{Reading, Read, fresh, atEvents, withState, beforeTicks, ticksDue, eventRead, recordRead}

@@ -5,4 +5,9 @@ pub mod Tallies
 pub mod Along
 pub mod Windows
 pub mod Given
+pub mod Keeps
 pub mod Turns
+pub mod Events
+pub mod Ends
+pub mod Way
+pub mod Acts

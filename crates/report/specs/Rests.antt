@@ -1,7 +1,7 @@
 -- How the report of the rest of an input goes on, by what stands at its start; the ticks before a record may be told in parts.
 use mathlib.Core.Path.{_≡_, refl, sym, ap, _∙_}
 use mathlib.Core.List.{List, [], _++_, append-assoc}
-use Prim.Native.Nat.{ℕ, zero, suc, _+_, _≤_, _<_}
+use Prim.Native.Nat.{ℕ, zero, suc, _+_}
 use native.Mathlib.Omega.{arith}
 use lib.ListN.{length, drop, length-drop}
 use Rattle.rules.specs.Threads.{State}
@@ -15,7 +15,7 @@ use Rattle.rules.specs.History.{Happening, tickOf, ticksOf}
 use Rattle.rules.specs.Listing.{refusalLine}
 use Rattle.rules.specs.Listing as listing
 use Rattle.rules.specs.Stretches.{Activity}
-use Rattle.rules.specs.Report.{Rest, told, stand, ticksFor, eventFor, atMoment, onward, reportRecord, reportFrom, reportEnd}
+use Rattle.rules.specs.Report.{Rest, told, stand, eventFor, atMoment, onward, reportRecord, reportFrom, reportEnd}
 use Rattle.windows.specs.Ticks.{due-after, due-steps, onward-after}
 use Rattle.report.specs.Folds.{told-none, stand-none, told-then, stand-then, steps-first, ticks-first}
 use Rattle.report.specs.Fuel.{report-any, report-open}

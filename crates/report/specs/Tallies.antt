@@ -13,9 +13,9 @@ use Rattle.rules.specs.Report.{stand, ticksFor, atMoment, reportFrom}
 pub use Rattle.report.specs.declared.Tally.{Tally}
 pub use Rattle.report.specs.declared.TallyTurn.{TallyTurn}
 
--- a call that has less room left writes nothing more; what is written before the next byte of the input is taken is shorter
+-- a call that has less room left writes nothing more: there is room for all lines of a tick or of an event, or for those of the end
 abbrev pub roomy : ℕ
-roomy = 16384
+roomy = 16448
 
 -- a report that is not done
 abbrev pub reachedAt : Reading → List Activity → ℕ → Tally

@@ -1,11 +1,13 @@
 -- What a call promises, and what calls after calls write: any windows of an input give its report.
-use mathlib.Core.Path.{_≡_, refl, sym, ap, _∙_}
+use mathlib.Core.Path.{_≡_, refl, sym, ap, _∙_, subst}
 use mathlib.Core.Bool.{Bool, true, false, cond}
 use mathlib.Core.List.{List, [], _++_, append-nil, append-assoc}
-use Prim.Native.Nat.{ℕ, _-_, _≤_, _<_}
+use Prim.Native.Nat.{ℕ, _+_, _-_, _≤_, _<_}
+use native.Mathlib.Omega.{arith}
 use lib.ListN.{length, drop}
 use lib.Seq.{sets}
 use Rattle.rules.specs.Report.{reportHeading, reportFrom, report}
+use Rattle.promises.specs.Cases.{true-false}
 use Rattle.windows.specs.Advance.{widest, farthest}
 use Rattle.report.specs.Tallies.{Tally, TallyTurn, roomy, begun, restOf, GivenTally}
 use Rattle.report.specs.Along.{Brings}
@@ -29,7 +31,19 @@ pub record Went (last : Bool) (w out : List ℕ) (p : Tally) (out′ : List ℕ)
   -- what was to be written is that and what is still to be written
   pub brings : Brings last w 0 p text (t .taken) (t .tally)
   pub given : GivenTally (t .tally)
+  -- where nothing was taken or written, nothing was done
+  pub unmoved : t .taken + t .written ≡ 0 → t .tally ≡ p
   pub halts : Halts last (length w - t .taken) (length out - t .written) (t .tally)
+
+-- a call with enough room that neither takes nor writes wants more of the input, which is to come
+pub still-wants : {last : Bool} {w out : List ℕ} {p : Tally} {out′ : List ℕ} {t : TallyTurn} → Went last w out p out′ t → t .taken + t .written ≡ 0 → roomy ≤ length out → p .done ≡ false → p .place ≤ farthest → (last ≡ false) × (length w < widest)
+still-wants {last} {w} {out} {p} {t = t} c none room undone near = by (subst (λ (q : Tally). Halts last (length w - t .taken) (length out - t .written) q) (c .unmoved none) (c .halts))
+  where
+    by : Halts last (length w - t .taken) (length out - t .written) p → (last ≡ false) × (length w < widest)
+    by (is-done e) = absurd (true-false (sym e ∙ undone))
+    by (is-full h) = absurd (omega arith)
+    by (is-far h) = absurd (omega arith)
+    by (wants e h) = (e, omega arith)
 
 -- calls one after the other, of which each is handed what is left of the input, or a first part of that: from the tally p and the
 -- input s they write the text, and come to the tally q with `left` of the input

@@ -1,6 +1,6 @@
 -- What a window of the input shows of its report, whatever is behind the window.
-use mathlib.Core.Path.{_≡_, refl, sym, ap, _∙_, subst}
-use mathlib.Core.Bool.{Bool, true, false, cond}
+use mathlib.Core.Path.{_≡_, sym, ap, _∙_, subst}
+use mathlib.Core.Bool.{Bool, true, false}
 use mathlib.Core.List.{List, [], _++_, append-nil}
 use Prim.Native.Nat.{ℕ, _+_, _≤_}
 use native.Mathlib.Omega.{arith}
@@ -13,7 +13,7 @@ use Rattle.rules.specs.Records as records
 use Rattle.rules.specs.Reading.{Reading, withState, ticksDue, recordRead}
 use Rattle.rules.specs.History.{ticksOf}
 use Rattle.rules.specs.Listing.{refusalLine}
-use Rattle.rules.specs.Report.{told, stand, eventFor, reportFrom, reportEnd}
+use Rattle.rules.specs.Report.{told, stand, eventFor, reportEnd}
 use Rattle.windows.specs.Advance.{widest}
 use Rattle.windows.specs.Feeding.{Bytes, drop-bytes}
 use Rattle.windows.specs.Frames.{Shown, shown, none, bad, part, full, grows-bad, grows-full, grows-body}
@@ -37,6 +37,21 @@ whole-stays w behind kind n e = subst (Stays w behind) e (by (shown w))
     by (bad two h f) = rw f tt
     by (part some h f) = rw f tt
     by (full least h f) = rw f (grows-full w behind least h, grows-body w behind (2 + le16 w 0) (omega arith) h)
+
+-- where nothing is, nothing is left
+abbrev None : List ℕ → Frame → Type 0
+None w Ended = length w ≡ 0
+None w Cut = Unit {0}
+None w (Whole kind n) = Unit {0}
+
+pub whole-none : (w : List ℕ) → frameOf w ≡ Ended → length w ≡ 0
+whole-none w e = subst (None w) e (by (shown w))
+  where
+    by : Shown w → None w (frameOf w)
+    by (none h f) = rw f h
+    by (bad two h f) = rw f tt
+    by (part some h f) = rw f tt
+    by (full least h f) = rw f tt
 
 abbrev IsCut : Frame → Type 0
 IsCut Ended = ⊥
