@@ -3,3 +3,5 @@ pub mod Room
 pub mod Digits
 pub mod Lines
 pub mod Laws
+pub mod Wide
+pub mod Accounts

@@ -12,6 +12,9 @@ ghost use lib.Signed.{nonNeg};
 ghost use Rattle.rules.specs.Listing as listing;
 ghost use Rattle.rules.specs.Listing.{decimal, signed, grantLine, idleLine, refusalLine, endLine};
 ghost use Rattle.text.specs.Put.{Put, putOut, putTo, longest, ended, pair, four, eight};
+
+pub mod report;
+
 use quantities::Amount;
 
 // No line is longer.
