@@ -1,0 +1,4 @@
+pub mod Shell
+pub mod Kept
+pub mod Roomy
+pub mod Reached

@@ -1,0 +1,13 @@
+pub mod Folds
+pub mod Fuel
+pub mod Rests
+pub mod Tallies
+pub mod Along
+pub mod Windows
+pub mod Given
+pub mod Keeps
+pub mod Turns
+pub mod Events
+pub mod Ends
+pub mod Way
+pub mod Acts
