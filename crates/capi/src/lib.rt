@@ -214,7 +214,7 @@ pub extern "C" fn bollardine_complete(s: OutState, i: u16) -> OutAnswered
     requires { ⌜ Given (insideState s) ⌝ }
     ensures { λ r. ⌜ r ≡ crossed (completion (insideState s) i) ⌝ }
 {
-    answer_out(schedule::events::complete(state_in(s), i))
+    answer_out(events::complete(state_in(s), i))
 }
 
 #[no_mangle]
@@ -222,7 +222,7 @@ pub extern "C" fn bollardine_arrive(s: OutState, i: u16) -> OutAnswered
     requires { ⌜ Given (insideState s) ⌝ }
     ensures { λ r. ⌜ r ≡ crossed (arrival (insideState s) i) ⌝ }
 {
-    answer_out(schedule::events::arrive(state_in(s), i))
+    answer_out(events::arrive(state_in(s), i))
 }
 
 #[no_mangle]
@@ -230,7 +230,7 @@ pub extern "C" fn bollardine_drop(s: OutState, i: u16) -> OutAnswered
     requires { ⌜ Given (insideState s) ⌝ }
     ensures { λ r. ⌜ r ≡ crossed (dropped (insideState s) i) ⌝ }
 {
-    answer_out(schedule::events::drop_waiting(state_in(s), i))
+    answer_out(events::drop_waiting(state_in(s), i))
 }
 
 #[no_mangle]

@@ -7,12 +7,12 @@ use crate::say::end_line;
 use crate::say::entries;
 use crate::say::event;
 use crate::say::number;
+use events::arrive;
+use events::complete;
+use events::drop_waiting;
 use quantities::Moment;
 use quantities::State;
 use quantities::Table;
-use schedule::events::arrive;
-use schedule::events::complete;
-use schedule::events::drop_waiting;
 use schedule::step;
 
 // So many threads of share 1 that fill the processor.

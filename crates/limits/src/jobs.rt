@@ -7,8 +7,8 @@ use crate::calls::dropping;
 use crate::calls::tick;
 use crate::say::end_line;
 use crate::say::number;
+use events::arrive;
 use quantities::State;
-use schedule::events::arrive;
 
 // So many arrivals of thread 0, without a line for each.
 fn arrivals(s: State, n: u32) -> State

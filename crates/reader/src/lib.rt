@@ -6,14 +6,14 @@ ghost use Rattle.rules.specs.Input as whole;
 ghost use Rattle.rules.specs.Input.{GivenReading, endRead, readInput};
 
 mod answers;
-mod events;
+mod event;
 mod table;
 
 use crate::answers::refused;
-use crate::events::all_rows;
-use crate::events::before_ticks;
-use crate::events::event;
-use crate::events::moment_of;
+use crate::event::all_rows;
+use crate::event::before_ticks;
+use crate::event::event;
+use crate::event::moment_of;
 use crate::table::head;
 use crate::table::row;
 use quantities::Answer;

@@ -1,8 +1,5 @@
-// The schedule. A caller may call what is in `events`, `step` and `look`; each function
-// there asks for a given state and no more.
-mod amounts;
-pub mod events;
+// Steps and runs. A caller may call what is in `step` and `look`; each function there asks for a
+// given state and no more.
 pub mod look;
 mod passes;
 pub mod step;
-mod thread;

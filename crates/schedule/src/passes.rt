@@ -3,42 +3,19 @@ ghost use mathlib.Core.Path.{_≡_};
 ghost use Prim.Native.Nat.{_<_};
 ghost use Rattle.rules.specs.Limits.{nobody, clockEnd};
 ghost use Rattle.rules.specs.Threads.{freeOf};
-ghost use Rattle.rules.specs.Leaving.{gone};
 ghost use Rattle.rules.specs.Choice.{idled};
 ghost use Rattle.rules.specs.Charge.{beneficiary, charged, moved};
 ghost use Rattle.promises.specs.Ready.{Steady};
 ghost use Rattle.promises.specs.Sound.{Sound};
 ghost use Rattle.promises.specs.Tables.{Table16};
-use crate::amounts::add;
-use crate::amounts::amount_of;
-use crate::thread::at_rest;
-use crate::thread::left;
-use crate::thread::lighter;
-use crate::thread::spare;
 use quantities::Moment;
 use quantities::State;
 use quantities::Table;
-
-// Step 2.
-pub fn leaving(s: State) -> State
-    requires { ⌜ Sound s ⌝ }
-    ensures { λ r. ⌜ r ≡ gone s ⌝ }
-{
-    if s.closed {
-        return s;
-    }
-    let n = s.count;
-    let now = s.clock;
-    let mut z = s;
-    let mut i: usize = 0;
-    while i < n {
-        let t = z.threads[i];
-        let u = left(t, now);
-        z.threads[i] = u;
-        i += 1;
-    }
-    z
-}
+use threads::amounts::add;
+use threads::amounts::amount_of;
+use threads::thread::at_rest;
+use threads::thread::lighter;
+use threads::thread::spare;
 
 // The free share of each application.
 pub fn free_table(s: State) -> [u32; Table::APPS]

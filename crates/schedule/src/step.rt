@@ -8,13 +8,6 @@ ghost use Rattle.rules.specs.Calls.{Given};
 ghost use Rattle.promises.specs.Taken.{entryTo, outcomeTo};
 use crate::passes::charge;
 use crate::passes::idle_tick;
-use crate::thread::beside;
-use crate::thread::contends;
-use crate::thread::first;
-use crate::thread::fit_one;
-use crate::thread::is_active;
-use crate::thread::left_unless;
-use crate::thread::spare;
 use quantities::Answer;
 use quantities::Answered;
 use quantities::Moment;
@@ -22,6 +15,13 @@ use quantities::Outcome;
 use quantities::State;
 use quantities::Stepped;
 use quantities::Table;
+use threads::thread::beside;
+use threads::thread::contends;
+use threads::thread::first;
+use threads::thread::fit_one;
+use threads::thread::is_active;
+use threads::thread::left_unless;
+use threads::thread::spare;
 
 // The state after one tick before the clock's end; who had it stands in the state. Steps 2, 4 and 5
 // are loops of one function, since a state that goes from function to function is copied.

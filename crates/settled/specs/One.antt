@@ -5,9 +5,9 @@ use mathlib.Core.Path.{_≡_, sym, _∙_}
 use Rattle.tables.proofs.head.Reads as head
 use Rattle.tables.proofs.row.Reads as row
 use Rattle.tables.proofs.begin.Reads as begin
-use Rattle.schedule.proofs.events.complete.Reads as complete
-use Rattle.schedule.proofs.events.arrive.Reads as arrive
-use Rattle.schedule.proofs.events.drop_waiting.Reads as drop_waiting
+use Rattle.events.proofs.complete.Reads as complete
+use Rattle.events.proofs.arrive.Reads as arrive
+use Rattle.events.proofs.drop_waiting.Reads as drop_waiting
 use Rattle.schedule.proofs.step.step.Reads as step
 use Rattle.schedule.proofs.step.next.Reads as next
 use Rattle.schedule.proofs.step.run.Reads as run

@@ -1,0 +1,105 @@
+use mathlib.Core.Logic.{⊎-elim}
+use mathlib.Core.Path.{_≡_, refl, sym, _∙_, ap}
+use Prim.Native.Nat.{_≤_, _<_, _-_, _+_}
+use native.Mathlib.Nat.{le-antisymm}
+use native.Mathlib.Numerals.{add-one}
+use native.Mathlib.Omega.{arith}
+use borrow.Author.Tests.{eq-eqb, ne-eqb}
+use Rattle.rules.specs.Limits.{maxThreads, nobody}
+use Rattle.rules.specs.Threads.{earliest, closer}
+use Rattle.rules.specs.Completion.{takes}
+use borrow.Author.Needs.{needs}
+use Rattle.events.proofs.find_receiver.Statement.{statement}
+use Rattle.events.proofs.find_receiver.Tie as tie
+
+abbrev Inv-loop : tie.InvT-loop
+Inv-loop x s n b₀ i₀ b i = (i ≤ n) × (b ≡ earliest (takes x) i (s .threads)) × ((b ≡ nobody → ⊥) → b < i)
+
+abbrev μ-loop : tie.MeasureT-loop
+μ-loop x s n b₀ i₀ b i = n - i
+
+loop-holds : tie.Need-loop-holds Inv-loop μ-loop
+unfolding earliest
+loop-holds c = (omega arith, refl, λ f. absurd (f refl))
+
+mul-t : tie.Need-mul-t Inv-loop μ-loop
+mul-t c = search needs
+
+element-copy-out-t : tie.Need-element-copy-out-t Inv-loop μ-loop
+element-copy-out-t c = omega (arith, c .before .before .pre .0 .few)
+
+can-take-requires : tie.Need-can-take-requires Inv-loop μ-loop
+can-take-requires c κs = let s = c .before .before .before in (s .pre .1, s .pre .0 .ok _ (c .before .loop-test .taken))
+
+-- the best so far is an index
+inside : (c : tie.Else2 Inv-loop μ-loop) → c .before .before .before .before .before .loop .b < maxThreads
+inside c =
+    let l = c .before .before .before .before .before in
+    omega (arith, l .loop .inv .2 (c .if2 .left), l .before .pre .0 .few)
+
+mul-o : tie.Need-mul-o Inv-loop μ-loop
+mul-o c = let h = inside c in omega arith
+
+element-copy-out-o : tie.Need-element-copy-out-o Inv-loop μ-loop
+element-copy-out-o c = inside c
+
+earlier-requires : tie.Need-earlier-requires Inv-loop μ-loop
+earlier-requires c κs =
+    let l = c .before .before .before .before .before .before in
+    let g = l .before .pre .0 in
+    (g .ok (l .loop .i) (omega arith), g .ok (l .loop .b) (omega (arith, l .loop .inv .2 (c .before .if2 .left))))
+
+add-i : tie.Need-add-i Inv-loop μ-loop
+add-i c = omega arith
+
+loop-less : tie.Need-loop-less Inv-loop μ-loop
+loop-less c = omega arith
+
+-- one turn: the closer of the two
+turn : (c : tie.Joined1 Inv-loop μ-loop) → let l = c .before .before .before .before .loop in let a = c .before .before .before .before .before .args in (c .if1 .b ≡ closer (takes (a .x)) (a .t1 .threads) (l .b) (l .i)) × ((c .if1 .b ≡ nobody → ⊥) → c .if1 .b < l .i + 1)
+turn c =
+    let l = c .before .before .before .before .loop in
+    let e = sym (c .before .can-take .ensures) in
+    ⊎-elim
+    (λ w. (rw (e ∙ w .0 .taken, eq-eqb _ _ (w .1 .taken), w .2), λ _. omega (arith, w .2)))
+    (⊎-elim
+    (λ w. (rw (e ∙ w .0 .taken, ne-eqb _ _ (w .1 .left), sym (w .3 .ensures) ∙ w .4 .taken, w .5), λ _. omega (arith, w .5)))
+    (⊎-elim
+    (λ w. (rw (e ∙ w .0 .taken, ne-eqb _ _ (w .1 .left), sym (w .3 .ensures) ∙ w .4 .left, w .5), λ _. omega (arith, w .5, l .inv .2 (w .1 .left))))
+    (λ w. (rw (e ∙ w .0 .left, w .1), λ f. let h = l .inv .2 (λ q. f (w .1 ∙ q)) in omega (arith, w .1)))))
+    (c .if1 .came)
+
+loop-again : tie.Need-loop-again Inv-loop μ-loop
+unfolding earliest
+loop-again c =
+    let l = c .before .before .before .before .loop in
+    let a = c .before .before .before .before .before .args in
+    let y = turn c in (
+      omega arith,
+      y .0 ∙ ap (λ b. closer (takes (a .x)) (a .t1 .threads) b (l .i)) (l .inv .1) ∙ sym (ap (λ k. earliest (takes (a .x)) k (a .t1 .threads)) (add-one (l .i))),
+      y .1,
+    )
+
+returns : tie.Need-returns Inv-loop μ-loop
+returns c =
+    let l = c .before .loop in
+    let a = c .before .before .args in
+    l .inv .1 ∙ ap (λ k. earliest (takes (a .x)) k (a .t1 .threads)) (le-antisymm (l .inv .0) (c .loop-test .left))
+
+pub find-receiver-spec : {M : Type 1} → statement M
+find-receiver-spec =
+    tie.close
+    (tie.spec
+    Inv-loop
+    μ-loop
+    loop-holds
+    mul-t
+    element-copy-out-t
+    can-take-requires
+    mul-o
+    element-copy-out-o
+    earlier-requires
+    add-i
+    loop-less
+    loop-again
+    returns)
