@@ -27,7 +27,7 @@ ALIKE = {
     "receiver-only-earlier": [(EVENTS, "    !earlier(y, x)\n", "    earlier(y, x)\n")],
     "receiver-strictly-later": [(EVENTS, "    !earlier(y, x)\n", "    earlier(x, y)\n")],
     "receiver-contending": [
-        (EVENTS, "use crate::thread::earlier;", "use crate::thread::contends;\nuse crate::thread::earlier;"),
+        (EVENTS, "use threads::thread::earlier;", "use threads::thread::contends;\nuse crate::thread::earlier;"),
         (EVENTS, "    if inactive(y) {", "    if !contends(y) {"),
     ],
     "receiver-in-any-application": [(EVENTS, "    if y.app != x.app {", "    if y.app != y.app {")],
