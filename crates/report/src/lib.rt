@@ -148,15 +148,7 @@ fn is_event(e: Record) -> bool
 }
 
 // The record e, for which no tick is due.
-fn apply(
-    w: &[u8],
-    out: &mut [u8],
-    at: usize,
-    used: usize,
-    p: Tally,
-    n: usize,
-    e: Record,
-) -> Acted
+fn apply(w: &[u8], out: &mut [u8], at: usize, used: usize, p: Tally, n: usize, e: Record) -> Acted
     requires { ⌜ Open (now w) (now out) at used p × Stands (now w) at n e × (ticksDue (p .reading) e ≡ 0) ⌝ }
     ensures { λ r. ⌜ ActedOn (now (w .entry)) (now (out .entry)) at used p (now (out .exit)) r ⌝ }
 {
@@ -191,15 +183,7 @@ fn apply(
 }
 
 // The ticks before the record e and, where there is room left after them, the record.
-fn known(
-    w: &[u8],
-    out: &mut [u8],
-    at: usize,
-    used: usize,
-    p: Tally,
-    n: usize,
-    e: Record,
-) -> Acted
+fn known(w: &[u8], out: &mut [u8], at: usize, used: usize, p: Tally, n: usize, e: Record) -> Acted
     requires { ⌜ Open (now w) (now out) at used p × Stands (now w) at n e ⌝ }
     ensures { λ r. ⌜ ActedOn (now (w .entry)) (now (out .entry)) at used p (now (out .exit)) r ⌝ }
 {
@@ -231,15 +215,7 @@ fn known(
 }
 
 // A whole record of this kind, of n bytes.
-fn whole(
-    w: &[u8],
-    out: &mut [u8],
-    at: usize,
-    used: usize,
-    p: Tally,
-    kind: u16,
-    n: usize,
-) -> Acted
+fn whole(w: &[u8], out: &mut [u8], at: usize, used: usize, p: Tally, kind: u16, n: usize) -> Acted
     requires { ⌜ Open (now w) (now out) at used p × Framed (now w) at kind n ⌝ }
     ensures { λ r. ⌜ ActedOn (now (w .entry)) (now (out .entry)) at used p (now (out .exit)) r ⌝ }
 {
