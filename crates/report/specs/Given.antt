@@ -14,6 +14,7 @@ use Rattle.rules.specs.Input.{readings, GivenReading}
 use Rattle.rules.specs.History.{ticksOf}
 use Rattle.rules.specs.Stretches.{Activity, allQuiet}
 use Rattle.rules.specs.Report.{stand, eventFor}
+use Rattle.windows.specs.Readings.{readings-more}
 use Rattle.report.specs.Folds.{stand-none}
 use Rattle.report.specs.Tallies.{Tally, begun, reachedAt, finished, ifRead, standAfter, standings, GivenTally}
 
@@ -29,11 +30,6 @@ pub tally-reading : {p : Tally} → GivenTally p → GivenReading (p .reading)
 tally-reading g = record { records = g .records; came = g .reading }
 
 -- ---- one record more
-readings-more : (es : List Record) (r : Reading) (e : Record) → readings r (es ++ (e ∷ [])) ≡ recordRead (readings r es) e .reading
-unfolding readings
-readings-more [] r e = refl
-readings-more (d ∷ es) r e = readings-more es (recordRead r d .reading) e
-
 standings-more : (es : List Record) (r : Reading) (cs : List Activity) (e : Record) → standings r cs (es ++ (e ∷ [])) ≡ standAfter (readings r es) (standings r cs es) e
 unfolding standings readings
 standings-more [] r cs e = refl

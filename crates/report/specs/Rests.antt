@@ -14,10 +14,11 @@ use Rattle.rules.specs.Reading.{Reading, Read, withState, ticksDue, recordRead}
 use Rattle.rules.specs.History.{Happening, tickOf, ticksOf}
 use Rattle.rules.specs.Listing.{refusalLine}
 use Rattle.rules.specs.Listing as listing
-use Rattle.rules.specs.Stretches.{Activity}
+use Rattle.rules.specs.Stretches.{Activity, appOf}
 use Rattle.rules.specs.Report.{Rest, told, stand, eventFor, atMoment, onward, reportRecord, reportFrom, reportEnd}
-use Rattle.windows.specs.Ticks.{due-after, due-steps, onward-after}
-use Rattle.report.specs.Folds.{told-none, stand-none, told-then, stand-then, steps-first, ticks-first}
+use Rattle.windows.specs.Ticks.{steps-first, due-after, due-steps, onward-after}
+use Rattle.accounts.specs.Told.{activities-append, told-append}
+use Rattle.report.specs.Folds.{told-none, stand-none, ticks-first}
 use Rattle.report.specs.Fuel.{report-any, report-open}
 
 -- the report of the rest s of an input
@@ -53,8 +54,8 @@ module _ (r : Reading) (e : Record) (d : ℕ) (due : ticksDue r e ≡ suc d) whe
       → reportRecord f r cs b n s e ≡ told (r .table) cs (tickOf (r .state)) ++ reportRecord f after-tick (stand (r .table) cs (tickOf (r .state))) b n s e
   record-tick f cs b n s =
       ap (λ (hs : List Happening). told (r .table) cs hs ++ on r (stand (r .table) cs hs)) (ap (λ (k : ℕ). ticksOf k (r .state)) due ∙ ticks-first d (r .state))
-      ∙ ap (λ (v : List ℕ). v ++ on r (stand (r .table) cs (tickOf (r .state) ++ later))) (told-then (r .table) cs (tickOf (r .state)) later)
-      ∙ ap (λ (c : List Activity). (told (r .table) cs (tickOf (r .state)) ++ told (r .table) one later) ++ on r c) (stand-then (r .table) cs (tickOf (r .state)) later)
+      ∙ ap (λ (v : List ℕ). v ++ on r (stand (r .table) cs (tickOf (r .state) ++ later))) (told-append (r .table) cs (tickOf (r .state)) later)
+      ∙ ap (λ (c : List Activity). (told (r .table) cs (tickOf (r .state)) ++ told (r .table) one later) ++ on r c) (activities-append (appOf (r .table)) cs (tickOf (r .state)) later)
       ∙ append-assoc (told (r .table) cs (tickOf (r .state))) (told (r .table) one later) (on r (stand (r .table) one later))
       ∙ ap (λ (v : List ℕ). told (r .table) cs (tickOf (r .state)) ++ (told (r .table) one later ++ v)) (sym (onward-tick f (stand (r .table) one later) b n s))
       ∙ ap (λ (k : ℕ). told (r .table) cs (tickOf (r .state)) ++ (told (r .table) one (ticksOf k (stepped (r .state) .state)) ++ on after-tick (stand (r .table) one (ticksOf k (stepped (r .state) .state))))) (sym (due-after r e d due))
@@ -132,8 +133,8 @@ module _ (b : ℕ) (s : List ℕ) where
           ticks-rest k r cs (suc d) (due ∙ omega arith)
           ∙ ap (λ (v : List ℕ). told (r .table) cs hs ++ v) (tick-rest (withState r z) c d (due-steps k (suc d) r e (due ∙ omega arith)))
           ∙ sym (append-assoc (told (r .table) cs hs) (told (r .table) c (tickOf z)) (fromOn q (stand (r .table) c (tickOf z)) b s))
-          ∙ ap (λ (v : List ℕ). v ++ fromOn q (stand (r .table) c (tickOf z)) b s) (sym (told-then (r .table) cs hs (tickOf z)))
-          ∙ ap (λ (x : List Activity). told (r .table) cs (hs ++ tickOf z) ++ fromOn q x b s) (sym (stand-then (r .table) cs hs (tickOf z)))
+          ∙ ap (λ (v : List ℕ). v ++ fromOn q (stand (r .table) c (tickOf z)) b s) (sym (told-append (r .table) cs hs (tickOf z)))
+          ∙ ap (λ (x : List Activity). told (r .table) cs (hs ++ tickOf z) ++ fromOn q x b s) (sym (activities-append (appOf (r .table)) cs hs (tickOf z)))
         where
           z : State
           z = stateAfter k (r .state)

@@ -29,7 +29,7 @@ pub given-fresh : GivenReading fresh
 unfolding readings
 given-fresh = record { records = []; came = refl }
 
-readings-more : (es : List Record) (r : Reading) (e : Record) → readings r (es ++ (e ∷ [])) ≡ recordRead (readings r es) e .reading
+pub readings-more : (es : List Record) (r : Reading) (e : Record) → readings r (es ++ (e ∷ [])) ≡ recordRead (readings r es) e .reading
 unfolding readings
 readings-more [] r e = refl
 readings-more (d ∷ es) r e = readings-more es (recordRead r d .reading) e

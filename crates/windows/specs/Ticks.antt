@@ -20,7 +20,7 @@ use Rattle.promises.specs.Begin.{peel, both-done}
 use Rattle.promises.specs.Taken.{steps-clock}
 
 -- the first tick of a run is taken first
-steps-first : (k : ℕ) (s : State) → stateAfter (suc k) s ≡ stateAfter k (stepped s .state)
+pub steps-first : (k : ℕ) (s : State) → stateAfter (suc k) s ≡ stateAfter k (stepped s .state)
 unfolding stateAfter
 steps-first zero s = refl
 steps-first (suc k) s = ap (λ (z : State). stepped z .state) (steps-first k s)
