@@ -46,7 +46,7 @@ unfolding someTo
 some-more p i xs = ap (λ n. someTo p n xs) (add-one i)
 
 -- just where `earliest` names one
-pub some-earliest : (p : Thread → Bool) (n : ℕ) (xs : List Thread) → n ≤ maxThreads → someTo p n xs ≡ not (eqb (earliest p n xs) nobody)
+some-earliest : (p : Thread → Bool) (n : ℕ) (xs : List Thread) → n ≤ maxThreads → someTo p n xs ≡ not (eqb (earliest p n xs) nobody)
 unfolding someTo earliest
 some-earliest p zero xs h = refl
 some-earliest p (suc i) xs h = go (earliest p i xs) (some-earliest p i xs (omega arith)) (p (at xs i))
@@ -146,7 +146,7 @@ pub arrives : (s : State) (k : ℕ) → arrival s k .answer ≡ Done → k < s .
 arrives s k = by-arrival s (λ (r : Answered). r .answer ≡ Done → k < s .count) k (λ n e. refused-not n e) (λ h _ _. h)
 
 -- is the thread inactive once those that leave have left?
-abbrev pub quietAs : Bool → ℕ → Thread → Bool
+abbrev quietAs : Bool → ℕ → Thread → Bool
 quietAs closed now x = isInactive (cond closed x (leave now x) .phase)
 
 module _ (closed : Bool) (now : ℕ) (x : Thread) where

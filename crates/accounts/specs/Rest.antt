@@ -37,7 +37,7 @@ pub record Rests (t : Table) (cs : List Activity) (i : ℕ) (z : ℤ) (now : ℕ
   pub lines : Lined t (appOf t i) now (rests z (activityAt cs (appOf t i)))
 
 module _ {t : Table} {q m now : ℕ} {xs : List Thread} {cs : List Activity} (i : ℕ) (z : ℤ) (f : Fate) (inside : i < m) (q-max : q ≤ maxQ) (time : now ≤ clockEnd) where
-  pub rests-by : Held t q m now xs (noted (appOf t) cs (became-inactive i now z f)) → Suits (appOf t) cs (became-inactive i now z f) → Rests t cs i (lostAs f z) now
+  rests-by : Held t q m now xs (noted (appOf t) cs (became-inactive i now z f)) → Suits (appOf t) cs (became-inactive i now z f) → Rests t cs i (lostAs f z) now
   unfolding noted rests
   rests-by h s =
       let l = h .tied .app-max i inside in

@@ -1,4 +1,4 @@
--- One turn more of the loops over the applications and over the rows.
+-- One turn more of the loop over the applications.
 use mathlib.Core.Path.{_≡_}
 use mathlib.Core.List.{List}
 use Prim.Native.Nat.{ℕ, _+_, _<_}

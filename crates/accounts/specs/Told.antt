@@ -20,7 +20,7 @@ room = 16384
 
 -- ---- a history goes on from where it was
 module _ (app : ℕ → ℕ) where
-  pub stretches-append : (cs : List Activity) (hs ks : List Happening) → stretches app cs (hs ++ ks) ≡ stretches app cs hs ++ stretches app (activities app cs hs) ks
+  stretches-append : (cs : List Activity) (hs ks : List Happening) → stretches app cs (hs ++ ks) ≡ stretches app cs hs ++ stretches app (activities app cs hs) ks
   unfolding stretches activities
   stretches-append cs [] ks = refl
   stretches-append cs (h ∷ hs) ks = ap (λ os. ends app cs h ++ os) (stretches-append (noted app cs h) hs ks) ∙ sym (append-assoc (ends app cs h) (stretches app (noted app cs h) hs) (stretches app (activities app (noted app cs h) hs) ks))

@@ -19,10 +19,10 @@ pub fn woken(c: Activity, now: Moment) -> Activity
     requires { ⌜ c .active ≤ 64 ⌝ }
     ensures { λ r. ⌜ r ≡ wakes (now .0) c ⌝ }
 {
-    let n = c.active;
-    if n == 0 {
+    let more = c.active + 1;
+    if c.active == 0 {
         return Activity {
-            active: n + 1,
+            active: more,
             stretch: Stretch {
                 since: now,
                 granted: 0,
@@ -32,7 +32,7 @@ pub fn woken(c: Activity, now: Moment) -> Activity
     }
     let x = c.stretch;
     Activity {
-        active: n + 1,
+        active: more,
         stretch: x,
     }
 }
@@ -55,11 +55,13 @@ pub fn rested(c: Activity, z: Amount) -> Activity
     requires { ⌜ (0 < c .active) × SFits w64 (c .stretch .lost .0 +ℤ z .0) ⌝ }
     ensures { λ r. ⌜ r ≡ rests (z .0) c ⌝ }
 {
-    let mut x = c.stretch;
-    x.lost = add(x.lost, z);
+    let x = c.stretch;
+    let mut y = x;
+    y.lost = add(x.lost, z);
+    let fewer = c.active - 1;
     Activity {
-        active: c.active - 1,
-        stretch: x,
+        active: fewer,
+        stretch: y,
     }
 }
 

@@ -27,10 +27,11 @@ use text::report::stretch;
 fn own(x: Row, a: u16) -> u32
     ensures { λ r. ⌜ r ≡ cond (eqb (x .app) a) (x .share) 0 ⌝ }
 {
-    if x.app == a {
-        return x.share as u32;
+    let share = x.share as u32;
+    if x.app != a {
+        return 0;
     }
-    0
+    share
 }
 
 // The total share of the application a.

@@ -43,10 +43,10 @@ fn taken(
 {
     if had == Table::NOBODY {
         let how = How::Idle;
-        let used = all_held(out, from, t, cs, tick, how);
+        let to = all_held(out, from, t, cs, tick, how);
         let none = all_forgotten(cs);
         return Marked {
-            used: used,
+            used: to,
             activities: none,
         };
     }

@@ -43,7 +43,7 @@ pub account-parts : (a t : ℕ) (c : Stretch) (n : ℕ) (z : ℤ) (h : How)
 unfolding bytes line howText
 account-parts a t c n z h = simp append-assoc
 
-pub how-length : (h : How) → length (howText h) ≡ 5
+how-length : (h : How) → length (howText h) ≡ 5
 unfolding bytes howText
 how-length Over = refl
 how-length Idle = refl
@@ -62,7 +62,7 @@ span-most a f t p q r = omega (arith, span-length a f t, decimal-16 a p, decimal
 pub sums-most : (l : ℤ) (n : ℕ) (z : ℤ) → SFits w64 l → n < 2 ^ 64 → SFits w64 z → length (sumsText l n z) ≤ 63
 sums-most l n z p q r = omega (arith, sums-length l n z, signed-64 l p, decimal-64 n q, signed-64 z r)
 
-pub account-length : (a t : ℕ) (c : Stretch) (n : ℕ) (z : ℤ) (h : How) → length (accountLine a t c n z h) ≡ length (spanText a (c .since .0) t) + (length (decimal (c .granted)) + (length (sumsText (c .lost .0) n z) + 6))
+account-length : (a t : ℕ) (c : Stretch) (n : ℕ) (z : ℤ) (h : How) → length (accountLine a t c n z h) ≡ length (spanText a (c .since .0) t) + (length (decimal (c .granted)) + (length (sumsText (c .lost .0) n z) + 6))
 account-length a t c n z h =
     let s = spanText a (c .since .0) t in
     let g = ended (decimal (c .granted)) 32 in

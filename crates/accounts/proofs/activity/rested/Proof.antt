@@ -6,12 +6,12 @@ use Rattle.accounts.proofs.activity.rested.Tie as tie
 add-requires : tie.Need-add-requires
 add-requires c κs = search needs
 
-sub-t4 : tie.Need-sub-t4
-sub-t4 c = search needs
+sub-fewer : tie.Need-sub-fewer
+sub-fewer c = search needs
 
 returns : tie.Need-returns
 unfolding rests
 returns c = rw (c .before .add .ensures)
 
 pub rested-spec : {M : Type 1} → statement M
-rested-spec = tie.close (tie.spec add-requires sub-t4 returns)
+rested-spec = tie.close (tie.spec add-requires sub-fewer returns)

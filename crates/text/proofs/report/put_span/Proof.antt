@@ -19,7 +19,7 @@ put-field-requires : tie.Need-put-field-requires
 put-field-requires c κs =
     let a = c .before .before .before .before .before .before .before .args in
     let p = c .before .before .before .before .put-number in
-    omega (arith, span-length (a .app) (a .since .0) (a .until .0), ended-length (decimal (a .app)) 32, ended-length (decimal (a .since .0)) 32, p .ensures .next, p .kept .0)
+    omega (arith, span-length (a .app) (a .since .0) (a .until .0), ended-length (decimal (a .app)) 32, ended-length (decimal (a .since .0)) 32, ended-length (decimal (a .until .0)) 32, p .ensures .next, p .kept .0)
 
 cast-put-field-2 : tie.Need-cast-put-field-2
 cast-put-field-2 c = search needs
