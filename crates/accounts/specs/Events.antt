@@ -2,21 +2,19 @@
 use mathlib.Core.Path.{_≡_, refl, sym, ap, _∙_}
 use mathlib.Core.Bool.{Bool, true, false, not, cond, _&&_}
 use mathlib.Core.List.{List, [], _∷_, _++_}
-use Prim.Native.Nat.{ℕ, zero, suc, _+_, _≤_, _<_}
-use native.Mathlib.Numerals.{add-one}
+use Prim.Native.Nat.{ℕ, _+_, _≤_, _<_}
 use native.Mathlib.Omega.{arith}
-use borrow.Author.Tests.{ne-eqb}
 use lib.Dec.{eqb, ltb}
-use lib.IntN.{pos, _*ℤ_}
+use lib.IntN.{pos}
 use lib.Signed.{ltZ}
 use lib.ListN.{set}
 use Rattle.lists.specs.MapTo.{mapTo, map-has}
 use Rattle.quantities.specs.declared.Moment.{Moment}
-use Rattle.rules.specs.Limits.{nobody, maxThreads, apps}
-use Rattle.rules.specs.Threads.{Thread, State, Amount, amt, blank, at, withRows, scaled, isInactive, isNon, idle, Earlier, Equal, Later, isEarlier, sooner, earliest}
+use Rattle.rules.specs.Limits.{nobody, apps}
+use Rattle.rules.specs.Threads.{Thread, State, Amount, amt, blank, at, withRows, scaled, isInactive, isNon, idle}
 use Rattle.rules.specs.Table.{Table, Answer, Answered, Done, Refused}
 use Rattle.rules.specs.Leaving.{leave, gone}
-use Rattle.rules.specs.Completion.{ends as ended, takes, freed, completion}
+use Rattle.rules.specs.Completion.{ends as ended, freed, completion}
 use Rattle.rules.specs.Arrival.{arrival}
 use Rattle.rules.specs.Drop.{dropped}
 use Rattle.rules.specs.History.{Fate, received, unreceived, completed, arrived, dropped-to-head, ifDone, became-active, became-inactive, fateOf, receiverIn, retiring, leaves, leavings, waking, happens}
@@ -35,43 +33,6 @@ use Rattle.stretches.specs.Calls.{kept-gone}
 use Rattle.text.specs.Put.{Put}
 use Rattle.accounts.specs.Told.{Tells, tells-none, tells-one, tells-silent, tells-then}
 use Rattle.accounts.specs.Rest.{Rests, rests-goes, tells-rest}
-
--- ---- does any of the first n threads pass the test?
-unfoldable pub someTo : (Thread → Bool) → ℕ → List Thread → Bool
-someTo p zero xs = false
-someTo p (suc i) xs = cond (p (at xs i)) true (someTo p i xs)
-
-pub some-more : (p : Thread → Bool) (i : ℕ) (xs : List Thread) → someTo p (i + 1) xs ≡ cond (p (at xs i)) true (someTo p i xs)
-unfolding someTo
-some-more p i xs = ap (λ n. someTo p n xs) (add-one i)
-
--- just where `earliest` names one
-some-earliest : (p : Thread → Bool) (n : ℕ) (xs : List Thread) → n ≤ maxThreads → someTo p n xs ≡ not (eqb (earliest p n xs) nobody)
-unfolding someTo earliest
-some-earliest p zero xs h = refl
-some-earliest p (suc i) xs h = go (earliest p i xs) (some-earliest p i xs (omega arith)) (p (at xs i))
-  where
-    own : not (eqb i nobody) ≡ true
-    own = ap not (ne-eqb i nobody (λ e. omega arith))
-
-    go : (b : ℕ) → someTo p i xs ≡ not (eqb b nobody) → (c : Bool) → cond c true (someTo p i xs) ≡ not (eqb (cond c (cond (eqb b nobody) i (cond (sooner (at xs i) (at xs b)) i b)) b) nobody)
-    go b e true =
-        by-test (λ (k : ℕ). true ≡ not (eqb k nobody)) (eqb b nobody) (λ _. sym own)
-        (λ f. by-test (λ (k : ℕ). true ≡ not (eqb k nobody)) (sooner (at xs i) (at xs b)) (λ _. sym own) (λ _. ap not (sym f)))
-    go b e false = e
-
--- whether another thread receives what thread k frees, as the code finds it
-pub received-is : (s : State) (k i : ℕ) (u : Thread) (b : Bool) → b ≡ someTo (takes (at (s .threads) k)) i (set (s .threads) k u) → i ≡ s .count → u ≡ ended (at (s .threads) k) → s .count ≤ maxThreads → b ≡ not (eqb (receiverIn s k) nobody)
-received-is s k i u b h n e l = h ∙ rw (n, e) (some-earliest (takes (at (s .threads) k)) (s .count) (set (s .threads) k (ended (at (s .threads) k))) l)
-
--- "earlier" is the first of the comparison's two tests
-pub sooner-is : (x y : Thread) → sooner x y ≡ ltZ (x .e .0 *ℤ pos (y .share)) (y .e .0 *ℤ pos (x .share))
-sooner-is x y = go (ltZ (x .e .0 *ℤ pos (y .share)) (y .e .0 *ℤ pos (x .share))) (ltZ (y .e .0 *ℤ pos (x .share)) (x .e .0 *ℤ pos (y .share)))
-  where
-    go : (a b : Bool) → isEarlier (cond a Earlier (cond b Later Equal)) ≡ a
-    go true b = refl
-    go false true = refl
-    go false false = refl
 
 -- ---- a completion that is accepted
 abbrev accepted : Answer → Bool

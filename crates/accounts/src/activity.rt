@@ -7,12 +7,12 @@ ghost use mir.Val.{SFits};
 ghost use Rattle.lists.specs.MapTo.{mapTo};
 ghost use Rattle.rules.specs.Limits.{apps, clockEnd};
 ghost use Rattle.rules.specs.Stretches.{wakes, runs, rests, forgets};
-use crate::amounts::add;
 use quantities::Activity;
 use quantities::Amount;
 use quantities::Moment;
 use quantities::Stretch;
 use quantities::Table;
+use threads::amounts::add;
 
 // A thread of it becomes active: the first begins a stretch.
 pub fn woken(c: Activity, now: Moment) -> Activity

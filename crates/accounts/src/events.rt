@@ -7,7 +7,6 @@ ghost use lib.IntN.{pos};
 ghost use lib.ListN.{length};
 ghost use Rattle.rules.specs.Limits.{nobody};
 ghost use Rattle.rules.specs.Threads as threads;
-ghost use Rattle.rules.specs.Threads.{sooner};
 ghost use Rattle.rules.specs.Leaving.{leave};
 ghost use Rattle.rules.specs.Completion as completion;
 ghost use Rattle.rules.specs.Table.{Done};
@@ -23,9 +22,6 @@ ghost use Rattle.stretches.specs.Standing.{Kept};
 ghost use Rattle.accounts.specs.Told.{room, Tells};
 use crate::Marked;
 use crate::activity::woken;
-use crate::amounts::less;
-use crate::amounts::scaled;
-use crate::amounts::times;
 use crate::leaving::freed;
 use crate::leaving::leaves;
 use crate::leaving::leaving;
@@ -33,80 +29,27 @@ use crate::leaving::rest;
 use quantities::Activity;
 use quantities::Amount;
 use quantities::Moment;
-use quantities::Phase;
 use quantities::Record;
 use quantities::State;
 use quantities::Table;
 use quantities::Thread;
-
-fn inactive(t: Thread) -> bool
-    ensures { λ r. ⌜ r ≡ threads.isInactive (t .phase) ⌝ }
-{
-    let p = t.phase;
-    match p {
-        Phase::Inactive => true,
-        Phase::Contending => false,
-        Phase::NonContending => false,
-    }
-}
-
-// Is the deadline of t before that of o, as fractions?
-fn earlier(t: Thread, o: Thread) -> bool
-    requires { ⌜ RowOk t × RowOk o ⌝ }
-    ensures { λ r. ⌜ r ≡ sooner t o ⌝ }
-{
-    less(times(t.e, o.share), times(o.e, t.share))
-}
-
-// May y receive what x frees?
-fn can_take(x: Thread, y: Thread) -> bool
-    requires { ⌜ RowOk x × RowOk y ⌝ }
-    ensures { λ r. ⌜ r ≡ completion.takes x y ⌝ }
-{
-    if inactive(y) {
-        return false;
-    }
-    if y.app != x.app {
-        return false;
-    }
-    !earlier(y, x)
-}
-
-// The thread after its last job, no longer active.
-fn ended(t: Thread) -> Thread
-    ensures { λ r. ⌜ r ≡ completion.ends t ⌝ }
-{
-    Thread {
-        app: t.app,
-        phase: Phase::Inactive,
-        share: t.share,
-        period: t.period,
-        jobs: 0,
-        w: Amount(0),
-        e: Amount(0),
-    }
-}
+use threads::amounts::less;
+use threads::amounts::scaled;
+use threads::receiving::ending;
+use threads::receiving::find_receiver;
+use threads::thread::inactive;
 
 // Does another thread receive what thread k frees?
 fn received(s: State, k: usize) -> bool
     requires { ⌜ Good s × (k < s .count) ⌝ }
     ensures { λ r. ⌜ r ≡ not (eqb (receiverIn s k) nobody) ⌝ }
 {
-    let n = s.count;
     let x = s.threads[k];
     let mut z = s;
-    let u = ended(x);
+    let u = ending(x);
     z.threads[k] = u;
-    let mut found = false;
-    let mut i: usize = 0;
-    while i < n {
-        let y = z.threads[i];
-        if can_take(x, y) {
-            found = true;
-        }
-        i += 1;
-    }
-    found
+    let to = find_receiver(z, x);
+    to != Table::NOBODY
 }
 
 // What is lost of z where it is received or not.

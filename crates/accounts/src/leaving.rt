@@ -18,9 +18,6 @@ ghost use Rattle.accounts.specs.Told.{Tells};
 ghost use Rattle.accounts.specs.Rest.{Rests};
 use crate::Marked;
 use crate::activity::rested;
-use crate::amounts::less;
-use crate::amounts::scaled;
-use crate::amounts::sub;
 use crate::lines::over;
 use quantities::Activity;
 use quantities::Amount;
@@ -29,6 +26,9 @@ use quantities::Phase;
 use quantities::State;
 use quantities::Table;
 use quantities::Thread;
+use threads::amounts::less;
+use threads::amounts::scaled;
+use threads::amounts::sub;
 
 // Is the thread one that leaves at the moment now?
 pub fn leaves(t: Thread, now: Moment) -> bool

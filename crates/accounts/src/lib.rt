@@ -11,7 +11,6 @@ ghost use Rattle.accounts.specs.Told.{room};
 ghost use Rattle.accounts.specs.Ended.{KeptAt};
 
 mod activity;
-mod amounts;
 pub mod events;
 mod leaving;
 mod lines;

@@ -11,9 +11,6 @@ ghost use Rattle.rules.specs.Report.{overLines};
 ghost use Rattle.text.specs.Put.{Put};
 ghost use Rattle.text.specs.Wide.{wide};
 ghost use Rattle.accounts.specs.Lines.{Fair, Balances, balanceOf, Lined, lineOf, heldLine, heldLines};
-use crate::amounts::add;
-use crate::amounts::scaled;
-use crate::amounts::sub;
 use quantities::Activity;
 use quantities::Amount;
 use quantities::Moment;
@@ -22,6 +19,9 @@ use quantities::Stretch;
 use quantities::Table;
 use text::report::How;
 use text::report::stretch;
+use threads::amounts::add;
+use threads::amounts::scaled;
+use threads::amounts::sub;
 
 // What a row adds to the total share of the application a.
 fn own(x: Row, a: u16) -> u32

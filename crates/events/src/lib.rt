@@ -3,7 +3,7 @@ ghost use mathlib.Core.Path.{_≡_};
 ghost use Prim.Native.Nat.{_<_, _≤_};
 ghost use Rattle.rules.specs.Limits.{maxJobs, clockEnd};
 ghost use Rattle.rules.specs.Threads.{Contending, at, with, withJobs, withRows};
-ghost use Rattle.rules.specs.Completion.{goesOn, stays, ends, takes, receiver, completing, completion};
+ghost use Rattle.rules.specs.Completion.{goesOn, stays, completing, completion};
 ghost use Rattle.rules.specs.Table as rule;
 ghost use Rattle.rules.specs.Leaving.{gone};
 ghost use Rattle.rules.specs.Arrival as arriving;
@@ -24,8 +24,8 @@ use threads::amounts::add;
 use threads::amounts::less;
 use threads::amounts::scaled;
 use threads::amounts::sub;
-use threads::thread::earlier;
-use threads::thread::inactive;
+use threads::receiving::ending;
+use threads::receiving::find_receiver;
 use threads::thread::left;
 use threads::thread::lighter;
 
@@ -67,60 +67,6 @@ fn staying(t: Thread) -> Thread
         w: w,
         e: e,
     }
-}
-
-// No job waits, and W is not ahead of the clock.
-fn ending(t: Thread) -> Thread
-    ensures { λ r. ⌜ r ≡ ends t ⌝ }
-{
-    Thread {
-        app: t.app,
-        phase: Phase::Inactive,
-        share: t.share,
-        period: t.period,
-        jobs: 0,
-        w: Amount(0),
-        e: Amount(0),
-    }
-}
-
-// May y receive what x frees?
-fn can_take(x: Thread, y: Thread) -> bool
-    requires { ⌜ RowOk x × RowOk y ⌝ }
-    ensures { λ r. ⌜ r ≡ takes x y ⌝ }
-{
-    if inactive(y) {
-        return false;
-    }
-    if y.app != x.app {
-        return false;
-    }
-    !earlier(y, x)
-}
-
-// Who receives what x frees, or NOBODY.
-fn find_receiver(s: State, x: Thread) -> usize
-    requires { ⌜ Sound s × RowOk x ⌝ }
-    ensures { λ r. ⌜ r ≡ receiver (s .count) x (s .threads) ⌝ }
-{
-    let n = s.count;
-    let mut b: usize = Table::NOBODY;
-    let mut i: usize = 0;
-    while i < n {
-        let t = s.threads[i];
-        if can_take(x, t) {
-            if b == Table::NOBODY {
-                b = i;
-            } else {
-                let o = s.threads[b];
-                if earlier(t, o) {
-                    b = i;
-                }
-            }
-        }
-        i += 1;
-    }
-    b
 }
 
 // Step 1, for the thread k.

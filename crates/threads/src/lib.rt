@@ -1,4 +1,5 @@
-// Steps of one thread and its amounts, for the crates of the schedule and the accounts alone: these
+// Steps of one thread, its amounts, and who receives from it, for the crates that call these alone: the
 // functions ask for threads and amounts within bounds, which those crates have from a given state.
 pub mod amounts;
+pub mod receiving;
 pub mod thread;

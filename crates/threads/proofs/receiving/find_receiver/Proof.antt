@@ -9,8 +9,8 @@ use Rattle.rules.specs.Limits.{maxThreads, nobody}
 use Rattle.rules.specs.Threads.{earliest, closer}
 use Rattle.rules.specs.Completion.{takes}
 use borrow.Author.Needs.{needs}
-use Rattle.events.proofs.find_receiver.Statement.{statement}
-use Rattle.events.proofs.find_receiver.Tie as tie
+use Rattle.threads.proofs.receiving.find_receiver.Statement.{statement}
+use Rattle.threads.proofs.receiving.find_receiver.Tie as tie
 
 abbrev Inv-loop : tie.InvT-loop
 Inv-loop x s n b₀ i₀ b i = (i ≤ n) × (b ≡ earliest (takes x) i (s .threads)) × ((b ≡ nobody → ⊥) → b < i)
