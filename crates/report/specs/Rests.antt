@@ -17,7 +17,8 @@ use Rattle.rules.specs.Listing as listing
 use Rattle.rules.specs.Stretches.{Activity, appOf}
 use Rattle.rules.specs.Report.{Rest, told, stand, eventFor, atMoment, onward, reportRecord, reportFrom, reportEnd}
 use Rattle.windows.specs.Ticks.{steps-first, due-after, due-steps, onward-after}
-use Rattle.accounts.specs.Told.{activities-append, told-append}
+use Rattle.stretches.specs.Goes.{activities-append}
+use Rattle.accounts.specs.Told.{told-append}
 use Rattle.report.specs.Folds.{told-none, stand-none, ticks-first}
 use Rattle.report.specs.Fuel.{report-any, report-open}
 

@@ -7,6 +7,8 @@ use Rattle.text.proofs.granted.Reads as granted
 use Rattle.text.proofs.idle.Reads as idle
 use Rattle.text.proofs.refusal.Reads as refusal
 use Rattle.text.proofs.end.Reads as end
+use Rattle.text.proofs.report.report_heading.Reads as report_heading
+use Rattle.text.proofs.report.stretch.Reads as stretch
 
 pub heading-one : (κs : _) (a : _) (r r' : _) (s s' : _) → heading.Learnt κs a r s → heading.Learnt κs a r' s' → (r ≡ r') × (s .0 .now ≡ s' .0 .now)
 heading-one κs a r r' s s' p q = (one (p .0) (q .0), one (p .1) (q .1))
@@ -22,3 +24,9 @@ refusal-one κs a r r' s s' p q = (one (p .0) (q .0), one (p .1) (q .1))
 
 pub end-one : (κs : _) (a : _) (r r' : _) (s s' : _) → end.Learnt κs a r s → end.Learnt κs a r' s' → (r ≡ r') × (s .0 .now ≡ s' .0 .now)
 end-one κs a r r' s s' p q = (one (p .0) (q .0), one (p .1) (q .1))
+
+pub report-heading-one : (κs : _) (a : _) (r r' : _) (s s' : _) → report_heading.Learnt κs a r s → report_heading.Learnt κs a r' s' → (r ≡ r') × (s .0 .now ≡ s' .0 .now)
+report-heading-one κs a r r' s s' p q = (one (p .0) (q .0), one (p .1) (q .1))
+
+pub stretch-one : (κs : _) (a : _) (r r' : _) (s s' : _) → stretch.Learnt κs a r s → stretch.Learnt κs a r' s' → (r ≡ r') × (s .0 .now ≡ s' .0 .now)
+stretch-one κs a r r' s s' p q = (one (p .0) (q .0), one (p .1) (q .1))
