@@ -1,5 +1,5 @@
 -- The history of a sequence of calls, and what document 01 reads off it: each thread's jobs, their lengths, and the dedicated
--- completion time of each. Demand 3 is stated over these.
+-- completion time of each. Demand 3 is stated over these. What requests 5 and 8 read off it is in Stretches.
 use mathlib.Core.Bool.{Bool, not, cond, _&&_}
 use mathlib.Core.List.{List, [], _∷_, _++_}
 use mathlib.Core.Option.{Option, none, some}
