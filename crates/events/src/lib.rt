@@ -5,13 +5,16 @@ ghost use Rattle.rules.specs.Limits.{maxJobs, clockEnd};
 ghost use Rattle.rules.specs.Threads.{Contending, at, with, withJobs, withRows};
 ghost use Rattle.rules.specs.Completion.{goesOn, stays, completing, completion};
 ghost use Rattle.rules.specs.Table as rule;
-ghost use Rattle.rules.specs.Leaving.{gone};
 ghost use Rattle.rules.specs.Arrival as arriving;
 ghost use Rattle.rules.specs.Arrival.{arrival};
 ghost use Rattle.rules.specs.Drop.{headOnly, dropped};
 ghost use Rattle.rules.specs.Calls.{Given};
 ghost use Rattle.promises.specs.Ready.{Steady};
-ghost use Rattle.promises.specs.Sound.{Sound, RowOk};
+ghost use Rattle.promises.specs.Sound.{RowOk};
+
+mod leaving;
+
+use crate::leaving::leaving;
 use quantities::Amount;
 use quantities::Answer;
 use quantities::Answered;
@@ -26,7 +29,6 @@ use threads::amounts::scaled;
 use threads::amounts::sub;
 use threads::receiving::ending;
 use threads::receiving::find_receiver;
-use threads::thread::left;
 use threads::thread::lighter;
 
 fn refused(n: u8, s: State) -> Answered
@@ -123,27 +125,6 @@ pub fn complete(s: State, i: u16) -> Answered
         answer: Answer::Done,
         state: z,
     }
-}
-
-// Step 2.
-fn leaving(s: State) -> State
-    requires { ⌜ Sound s ⌝ }
-    ensures { λ r. ⌜ r ≡ gone s ⌝ }
-{
-    if s.closed {
-        return s;
-    }
-    let n = s.count;
-    let now = s.clock;
-    let mut z = s;
-    let mut i: usize = 0;
-    while i < n {
-        let t = z.threads[i];
-        let u = left(t, now);
-        z.threads[i] = u;
-        i += 1;
-    }
-    z
 }
 
 // Contending, with these numbers.

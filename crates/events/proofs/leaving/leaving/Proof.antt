@@ -8,8 +8,8 @@ use Rattle.rules.specs.Threads.{withRows}
 use Rattle.rules.specs.Leaving.{gone, leave}
 use Rattle.promises.specs.Tables.{Changed, change-none, change-next, change-more}
 use borrow.Author.Needs.{needs}
-use Rattle.events.proofs.leaving.Statement.{statement}
-use Rattle.events.proofs.leaving.Tie as tie
+use Rattle.events.proofs.leaving.leaving.Statement.{statement}
+use Rattle.events.proofs.leaving.leaving.Tie as tie
 
 abbrev Inv-loop : tie.InvT-loop
 Inv-loop n now z₀ i₀ z i = (i ≤ n) × Changed (leave (now .0)) z₀ i z
