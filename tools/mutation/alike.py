@@ -2,6 +2,7 @@
 
 THREAD = "crates/threads/src/thread.rt"
 EVENTS = "crates/events/src/lib.rt"
+RECEIVING = "crates/threads/src/receiving.rt"
 STEP = "crates/schedule/src/step.rt"
 PASSES = "crates/schedule/src/passes.rt"
 TABLES = "crates/tables/src/lib.rt"
@@ -23,14 +24,14 @@ ALIKE = {
     "completion-pulls-back": [(EVENTS, "    if less(t.e, e) {\n        u.e = e;\n    }\n", "    u.e = e;\n")],
     "completion-keeps-deadline": [(EVENTS, "        u.e = e;\n", "        u.e = t.e;\n")],
     "stays-at-equality": [(EVENTS, "if less(due, t.w) {", "if !less(t.w, due) {")],
-    "receiver-earlier-too": [(EVENTS, "    !earlier(y, x)\n", "    true\n")],
-    "receiver-only-earlier": [(EVENTS, "    !earlier(y, x)\n", "    earlier(y, x)\n")],
-    "receiver-strictly-later": [(EVENTS, "    !earlier(y, x)\n", "    earlier(x, y)\n")],
+    "receiver-earlier-too": [(RECEIVING, "    !earlier(y, x)\n", "    true\n")],
+    "receiver-only-earlier": [(RECEIVING, "    !earlier(y, x)\n", "    earlier(y, x)\n")],
+    "receiver-strictly-later": [(RECEIVING, "    !earlier(y, x)\n", "    earlier(x, y)\n")],
     "receiver-contending": [
-        (EVENTS, "use threads::thread::earlier;", "use threads::thread::contends;\nuse crate::thread::earlier;"),
-        (EVENTS, "    if inactive(y) {", "    if !contends(y) {"),
+        (RECEIVING, "use crate::thread::earlier;", "use crate::thread::contends;\nuse crate::thread::earlier;"),
+        (RECEIVING, "    if inactive(y) {", "    if !contends(y) {"),
     ],
-    "receiver-in-any-application": [(EVENTS, "    if y.app != x.app {", "    if y.app != y.app {")],
+    "receiver-in-any-application": [(RECEIVING, "    if y.app != x.app {", "    if y.app != y.app {")],
     "freed-amount-lost": [(EVENTS, "let b = find_receiver(z, t);", "let b = Table::NOBODY;")],
     "completion-forgets-who-had": [(EVENTS, "    z.completed = true;\n", "    z.completed = true;\n    z.had = Table::NOBODY;\n")],
     "completion-closes": [(EVENTS, "    z.completed = true;\n", "    z.completed = true;\n    z.closed = true;\n")],
@@ -84,7 +85,7 @@ ALIKE = {
     # ---- step 5, choice
     "tie-to-highest": [
         (THREAD, "        if earlier(t, o) {", "        if !earlier(o, t) {"),
-        (EVENTS, "                if earlier(t, o) {", "                if !earlier(o, t) {"),
+        (RECEIVING, "                if earlier(t, o) {", "                if !earlier(o, t) {"),
     ],
     "deadlines-rounded-down": [
         (THREAD, "let p = times(t.e, o.share);", "let p = Amount(t.e.0 / (t.share as i64));"),
