@@ -14,7 +14,7 @@ use Rattle.rules.specs.Limits.{nobody, apps}
 use Rattle.rules.specs.Threads.{Thread, State, Amount, amt, blank, at, withRows, scaled, isInactive, isNon, idle}
 use Rattle.rules.specs.Table.{Table, Answer, Answered, Done, Refused}
 use Rattle.rules.specs.Leaving.{leave, gone}
-use Rattle.rules.specs.Completion.{ends as ended, freed, completion}
+use Rattle.rules.specs.Completion.{freed, completion}
 use Rattle.rules.specs.Arrival.{arrival}
 use Rattle.rules.specs.Drop.{dropped}
 use Rattle.rules.specs.History.{Fate, received, unreceived, completed, arrived, dropped-to-head, ifDone, became-active, became-inactive, fateOf, receiverIn, retiring, leaves, leavings, waking, happens}

@@ -2,7 +2,7 @@
 use mathlib.Core.Path.{_≡_, refl, sym, ap, _∙_, subst}
 use mathlib.Core.Bool.{cond}
 use mathlib.Core.List.{List, [], _∷_}
-use Prim.Native.Nat.{ℕ, zero, suc, _+_, _≤_, _<_}
+use Prim.Native.Nat.{ℕ, _+_, _≤_, _<_}
 use native.Mathlib.Numerals.{add-one}
 use native.Mathlib.Omega.{arith}
 use borrow.Author.Count.{below-none, below-more}
@@ -128,15 +128,6 @@ module _ (t : Table) (cs : List Activity) (s : State) (n : ℕ) (out : List ℕ)
     -- the loop ends
     pub noted-to : (k < n → length out′ < used + room) → NotedTo t cs s n out from out′ used cs′ z
     noted-to h = record { count = k; noted = l; ended = λ j. omega (arith, same-room, h j) }
-
--- with room at the start, one tick at least
-pub noted-some : {t : Table} {cs : List Activity} {s : State} {n : ℕ} {out : List ℕ} {from : ℕ} {out′ : List ℕ} {used : ℕ} {cs′ : List Activity} {z : State} (l : NotedTo t cs s n out from out′ used cs′ z) → 0 < n → from + room ≤ length out → 0 < l .count
-unfolding ticksOf stretches overLines
-noted-some {t} {cs} {s} {n} {out} {from} {used = used} l h r = by (l .count) (l .noted .tells .put .next) (l .ended)
-  where
-    by : (k : ℕ) → used ≡ from + length (told t cs (ticksOf k s)) → (k < n → length out < used + room) → 0 < k
-    by zero e f = let g = f h in absurd (omega arith)
-    by (suc k) e f = omega arith
 
 -- the state and the applications at a tick
 pub kept-at : {t : Table} {cs : List Activity} {s : State} {n k : ℕ} {out : List ℕ} {from : ℕ} {out′ : List ℕ} {used : ℕ} {cs′ : List Activity} {z : State} → Given s → Kept t s cs → Noted t cs s n k out from out′ used cs′ z → Kept t z cs′

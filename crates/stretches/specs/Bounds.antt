@@ -1,6 +1,6 @@
 -- What a report of the stretches computes with is in range, at every moment of the clock.
 use mathlib.Core.Path.{_≡_}
-use mathlib.Core.Bool.{true, cond}
+use mathlib.Core.Bool.{cond}
 use mathlib.Core.List.{List, [], _∷_}
 use Prim.Native.Nat.{ℕ, zero, suc, _*_, _^_, _≤_, _<_}
 use native.Mathlib.Nat.{mul-le-mul}
@@ -11,15 +11,13 @@ use mir.Syntax.{w64}
 use mir.Val.{SFits}
 use Rattle.integers.specs.Parts.{up, dn, Sum, add-parts, Diff, sub-parts, sfits-parts}
 use Rattle.lists.specs.Sum.{sumBy}
-use Rattle.lists.specs.Take.{sum-at}
 use Rattle.rules.specs.Limits.{maxQ, apps, clockEnd}
-use Rattle.rules.specs.Threads.{Thread, blank, at, active, activeIn}
+use Rattle.rules.specs.Threads.{Thread, active, activeIn}
 use Rattle.rules.specs.Table.{Table}
-use Rattle.rules.specs.Stretches.{Activity, activityAt, elapsed, appOf, shareOf, balance}
+use Rattle.rules.specs.Stretches.{Activity, activityAt, elapsed, shareOf, balance}
 use Rattle.promises.specs.Cases.{test}
 use Rattle.stretches.specs.Item8.{one}
 use Rattle.stretches.specs.Standing.{StandsIn, Held}
-use Rattle.stretches.specs.Figures.{adds-one, own-active}
 
 -- at most one thread a row is active
 one-le : (a : ℕ) (x : Thread) → one a x ≤ 1
@@ -30,16 +28,6 @@ unfolding sumBy
 ones-le a zero xs = omega arith
 ones-le a (suc n) [] = omega arith
 ones-le a (suc n) (x ∷ xs) = omega (arith, one-le a x, ones-le a n xs)
-
--- an application of which a thread is active has one to count
-pub some-active : {t : Table} {q m now : ℕ} {xs : List Thread} {cs : List Activity} → Held t q m now xs cs → (i : ℕ) → i < m → active (at xs i) ≡ true
-    → 0 < activityAt cs (appOf t i) .active
-some-active {t} {q} {m} {now} {xs} h i l p = omega (
-  arith,
-  h .stands (appOf t i) (h .tied .app-max i l) .active,
-  sum-at (one (appOf t i)) m xs i blank l (omega (arith, h .tied .few, h .tied .long)),
-  adds-one {a = appOf t i} now (at xs i) (own-active (appOf t i) (at xs i) p (h .tied .app-same i l)) .ones,
-)
 
 -- what is in range of an application, which stands at c, at the moment now
 pub record InRange (q share now : ℕ) (c : Activity) : Type 0 where
@@ -95,12 +83,3 @@ module _ {t : Table} {q m now : ℕ} {xs : List Thread} {cs : List Activity} (h 
 module _ {q share now : ℕ} {c : Activity} (r : InRange q share now c) where
   pub lost-fits : SFits w64 (c .stretch .lost .0)
   lost-fits = sfits-parts w64 _ (omega (arith, r .lost-max)) (omega (arith, r .lost-min))
-
-  pub balance-fits : SFits w64 (balance q share now (c .stretch))
-  balance-fits = sfits-parts w64 _ (omega (arith, r .balance-up)) (omega (arith, r .balance-dn))
-
-  -- without what is lost
-  pub use-fits : SFits w64 (pos (q * c .stretch .granted) -ℤ pos (share * elapsed now (c .stretch)))
-  use-fits =
-      let d = sub-parts (pos (q * c .stretch .granted)) (pos (share * elapsed now (c .stretch))) in
-      sfits-parts w64 _ (omega (arith, d, r .given-max)) (omega (arith, d, r .capacity-max))

@@ -1,14 +1,13 @@
 -- Every call and every sequence of calls keeps where the applications stand, and every stretch that it ends without an idle tick is
 -- even.
 use mathlib.Core.List.{List, [], _∷_, _++_}
-use Prim.Native.Nat.{ℕ, zero, suc, _-_, _≤_, _<_}
+use Prim.Native.Nat.{ℕ, zero, suc, _-_, _<_}
 use native.Mathlib.Omega.{arith}
 use Rattle.lists.specs.All.{none}
-use Rattle.lists.specs.MapTo.{mapTo}
 use Rattle.rules.specs.Threads.{State, at}
 use Rattle.rules.specs.Table.{Table, Answered}
 use Rattle.rules.specs.Completion.{completion, afterCompletion}
-use Rattle.rules.specs.Leaving.{leave, gone}
+use Rattle.rules.specs.Leaving.{gone}
 use Rattle.rules.specs.Arrival.{arrival, arrived}
 use Rattle.rules.specs.Drop.{dropped}
 use Rattle.rules.specs.Choice.{chosen}
@@ -16,16 +15,16 @@ use Rattle.rules.specs.Step.{Stepped, ready, stepped}
 use Rattle.rules.specs.Run.{Ran, stateAfter, ran}
 use Rattle.rules.specs.Calls as calls
 use Rattle.rules.specs.Calls.{Call, apply, after}
-use Rattle.rules.specs.History.{completed, arrived as arrived-at, dropped-to-head, ifDone, retiring, waking, leavingTo, leavings, tickAs, tickOf, ticksOf, runAs, happens, history}
+use Rattle.rules.specs.History.{completed, arrived as arrived-at, dropped-to-head, ifDone, retiring, waking, leavings, tickAs, tickOf, ticksOf, runAs, happens, history}
 use Rattle.rules.specs.Stretches.{Activity, noted, activities, ends, appOf}
 use Rattle.promises.specs.Branches.{by-completion, by-arrival, by-drop, by-step, by-run}
 use Rattle.promises.specs.Good.{Good, Leads}
 use Rattle.promises.specs.Keep.{fine-at}
 use Rattle.promises.specs.Ready.{gone-beside, gone-good, ready-ready, chosen-leads}
 use Rattle.promises.specs.Always.{steps-good, apply-good}
-use Rattle.stretches.specs.Standing.{Held, Kept}
+use Rattle.stretches.specs.Standing.{Kept}
 use Rattle.stretches.specs.Goes.{goes-nowhere, goes-one, goes-on}
-use Rattle.stretches.specs.Leavings.{GoesTo, goes-leaving-to, goes-gone}
+use Rattle.stretches.specs.Leavings.{GoesTo, goes-gone}
 use Rattle.stretches.specs.Events.{goes-dropping, goes-arriving, goes-completing}
 use Rattle.stretches.specs.Ticks.{kept-fitted, goes-idle, goes-grant, runs-active}
 
@@ -96,14 +95,6 @@ module _ {t : Table} where
   goes-after (d ∷ ds) s good k = let g = goes-call d s good k in goes-on g (goes-after ds (apply s d) (apply-good d good) (g .held))
 
   -- ---- the activities alone
-  -- between two threads of a leaving, after the first i of them
-  pub kept-leaving : (i : ℕ) (s : State) {cs : List Activity} → Kept t s cs → i ≤ s .count
-      → Held t (s .q) (s .count) (s .clock .0) (mapTo i (leave (s .clock .0)) (s .threads)) (activities (appOf t) cs (leavingTo (s .clock .0) (s .threads) i))
-  kept-leaving i s k l = goes-leaving-to k i l .held
-
-  pub kept-tick : (s : State) {cs : List Activity} → Good s → Kept t s cs → Kept t (stepped s .state) (activities (appOf t) cs (tickOf s))
-  kept-tick s good k = goes-tick s good k .held
-
   pub kept-ticks : (n : ℕ) (s : State) {cs : List Activity} → Good s → Kept t s cs → Kept t (stateAfter n s) (activities (appOf t) cs (ticksOf n s))
   kept-ticks n s good k = goes-ticks n s good k .held
 
