@@ -14,8 +14,7 @@ use Rattle.rules.specs.Table.{Row, Table, Done, tableAnswer}
 use Rattle.rules.specs.Calls.{Call, arrive, step}
 use Rattle.rules.specs.Stretches.{Activity, aheadOf, elapsed, shareOf}
 use Rattle.stretches.specs.Item8.{Balanced}
-use Rattle.lag.specs.Lag.{Behind, DueBy, EachBehind, Until, left, moment, stands, othersOf}
-use Rattle.lag.specs.Own.{own, shareAt, grantedTo, margin, together, AllActive}
+use Rattle.lag.specs.Lag.{Behind, DueBy, EachBehind, Until, left, told, stands, othersOf}
 use Rattle.lag.specs.Computed.{Computed}
 
 abbrev row : ℕ → ℕ → ℕ → Row
@@ -65,12 +64,8 @@ latest (suc zero) h o c b = absurd c
 latest (suc (suc zero)) h o c b = leZ-yes tt
 latest (suc (suc (suc i))) h o c b = absurd (not-suc-le-zero (le-of-suc-le-suc (le-of-suc-le-suc (le-of-suc-le-suc h))))
 
-pub until-3 : Until usualPeriod thirds at-once 1 1 3
-until-3 = record {
-  whole = omega arith;
-  ahead = subst (λ (s : State). 1 * s .clock .0 ≤ 3) (sym comes-to) (omega arith);
-  latest = subst (λ (s : State). EachBehind 1 s (DueBy 1 3)) (sym comes-to) latest;
-}
+pub until-3 : Until 1 at-1 1 3
+until-3 = record { whole = omega arith; ahead = omega arith; latest = latest }
 
 -- − 2 + 1 × (3 − 1) = 0: the bound is reached
 pub lags-by : aheadOf 1 at-1 ≡ negsuc 1
@@ -82,11 +77,11 @@ unfolding Computed
 reached = refl
 
 -- .. and so with Item 8's equation: 2 × 1 = 3 × 0 + 0 + 1 × (3 − 1)
-pub stands-so : stands usualPeriod thirds at-once 1 ≡ since 0 0
+pub stands-so : stands thirds (told usualPeriod thirds at-once) 1 ≡ since 0 0
 unfolding Computed
 stands-so = refl
 
-pub balanced : Balanced usualPeriod thirds at-once 1 (left usualPeriod thirds at-once) (stands usualPeriod thirds at-once 1)
+pub balanced : Balanced usualPeriod thirds at-once 1 (left usualPeriod thirds at-once) (stands thirds (told usualPeriod thirds at-once) 1)
 unfolding Computed
 balanced h = refl
 
@@ -94,63 +89,3 @@ pub capacity-reached : pos (1 * (shareOf 1 thirds * elapsed 1 (since 0 0 .stretc
 unfolding Computed
 capacity-reached = refl
 
--- ---- a thread that had 1 of 4 ticks, with half of the processor: 1 × 4 is 3 below 2 × 1 + 2 + 1 × 3
-abbrev halves : Table
-halves = record { q = 2; threads = 2; rows = row 0 1 2 ∷ row 1 1 3 ∷ [] }
-
-abbrev four-ticks : List Call
-four-ticks = arrive 0 ∷ arrive 1 ∷ step ∷ step ∷ step ∷ step ∷ []
-
-pub halves-admitted : tableAnswer usualPeriod halves ≡ Done
-unfolding Computed
-halves-admitted = refl
-
-pub own-so : own usualPeriod halves four-ticks 1 ≡ since 0 1
-unfolding Computed
-own-so = refl
-
-pub own-near : shareAt usualPeriod halves four-ticks 1 * elapsed 4 (since 0 1 .stretch) + 3 ≡ 2 * 1 + margin usualPeriod halves four-ticks 1
-own-near = refl
-
--- ---- an application of two threads, both active since 0, that had 2 of 9 ticks, with half of the processor: 2 × 9 is 12 below
--- 4 × 2 + (4 + 1 × 7) + (4 + 1 × 7)
-abbrev quarters : Table
-quarters = record { q = 4; threads = 3; rows = row 0 2 2 ∷ row 1 1 7 ∷ row 1 1 7 ∷ [] }
-
-abbrev nine-ticks : List Call
-nine-ticks = arrive 0 ∷ arrive 1 ∷ arrive 2 ∷ step ∷ step ∷ step ∷ step ∷ step ∷ step ∷ step ∷ step ∷ step ∷ []
-
-pub quarters-admitted : tableAnswer usualPeriod quarters ≡ Done
-unfolding Computed
-quarters-admitted = refl
-
-pub first-so : own usualPeriod quarters nine-ticks 1 ≡ since 0 1
-unfolding Computed
-first-so = refl
-
-pub second-so : own usualPeriod quarters nine-ticks 2 ≡ since 0 1
-unfolding Computed
-second-so = refl
-
-abbrev Early : Activity → Type 0
-Early c = (0 < c .active) × (c .stretch .since .0 ≤ 0)
-
-early : Early (since 0 1)
-early = (omega arith, omega arith)
-
-pub all-active : AllActive usualPeriod quarters nine-ticks 1 0
-all-active zero h e = absurd (no e)
-  where
-    no : _≡_ {A = ℕ} 0 1 → ⊥
-    no e = omega arith
-all-active (suc zero) h e = subst Early (sym first-so) early
-all-active (suc (suc zero)) h e = subst Early (sym second-so) early
-all-active (suc (suc (suc i))) h e = absurd (not-suc-le-zero (le-of-suc-le-suc (le-of-suc-le-suc (le-of-suc-le-suc h))))
-
-pub moment-9 : moment usualPeriod quarters nine-ticks ≡ 9
-unfolding Computed
-moment-9 = refl
-
-pub application-near : shareOf 1 quarters * (9 - 0) + 12 ≡ 4 * together usualPeriod quarters nine-ticks 1 (grantedTo usualPeriod quarters nine-ticks) + together usualPeriod quarters nine-ticks 1 (margin usualPeriod quarters nine-ticks)
-unfolding Computed
-application-near = refl
