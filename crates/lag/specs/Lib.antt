@@ -13,4 +13,6 @@ pub mod Ticks
 pub mod OwnProved
 pub mod Computed
 pub mod Theorem2
+pub mod AnyTicks
 pub mod Witness
+pub mod Refuted

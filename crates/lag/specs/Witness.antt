@@ -5,6 +5,7 @@ use mathlib.Core.List.{List, [], _∷_}
 use Prim.Native.Nat.{ℕ, zero, suc, _+_, _*_, _-_, _≤_, _<_}
 use native.Mathlib.Nat.{not-suc-le-zero, le-of-suc-le-suc}
 use native.Mathlib.Omega.{arith}
+use lib.Dec.{lit<}
 use lib.IntN.{pos, negsuc, _+ℤ_, _*ℤ_}
 use lib.ListN.{replicate}
 use lib.Signed.{leZ-yes, ltZ-yes}
@@ -12,9 +13,11 @@ use Rattle.rules.specs.Limits.{usualPeriod}
 use Rattle.rules.specs.Threads.{State, Inactive, Contending, blank, amt, at}
 use Rattle.rules.specs.Table.{Row, Table, Done, tableAnswer}
 use Rattle.rules.specs.Calls.{Call, arrive, step}
-use Rattle.rules.specs.Stretches.{Activity, aheadOf, elapsed, shareOf}
+use Rattle.rules.specs.Stretches.{Activity, aheadOf, elapsed, appOf, shareOf}
 use Rattle.stretches.specs.Item8.{Balanced}
 use Rattle.lag.specs.Lag.{Behind, DueBy, EachBehind, Until, left, told, stands, othersOf}
+use Rattle.lag.specs.Own.{grantedFrom, MoreThan, own, dueTo, margin, together, AllFrom}
+use Rattle.lag.specs.OwnProved.{own-share}
 use Rattle.lag.specs.Computed.{Computed}
 
 abbrev row : ℕ → ℕ → ℕ → Row
@@ -89,3 +92,65 @@ pub capacity-reached : pos (1 * (shareOf 1 thirds * elapsed 1 (since 0 0 .stretc
 unfolding Computed
 capacity-reached = refl
 
+-- ---- a thread that had 1 of 4 ticks, with half of the processor: 1 × 4 is 3 below 2 × 1 + 2 + 1 × 3
+abbrev halves : Table
+halves = record { q = 2; threads = 2; rows = row 0 1 2 ∷ row 1 1 3 ∷ [] }
+
+abbrev four-ticks : List Call
+four-ticks = arrive 0 ∷ arrive 1 ∷ step ∷ step ∷ step ∷ step ∷ []
+
+pub halves-admitted : tableAnswer usualPeriod halves ≡ Done
+unfolding Computed
+halves-admitted = refl
+
+pub own-so : own (told usualPeriod halves four-ticks) 1 ≡ since 0 1
+unfolding Computed
+own-so = refl
+
+pub own-near : dueTo halves 4 (told usualPeriod halves four-ticks) 1 + 3 ≡ 2 * 1 + margin usualPeriod halves 1
+unfolding Computed
+own-near = refl
+
+pub own-promised : MoreThan 2 4 5 1
+unfolding Computed
+own-promised = own-share usualPeriod halves halves-admitted four-ticks .thread 1 (lit< tt) (lit< tt)
+
+-- ---- an application of two threads, both active since 2, that had 3 of the 9 ticks since, with half of the processor: 2 × 9 is 16
+-- below 4 × 3 + (4 + 1 × 7) + (4 + 1 × 7)
+abbrev quarters : Table
+quarters = record { q = 4; threads = 3; rows = row 0 2 2 ∷ row 1 1 7 ∷ row 1 1 7 ∷ [] }
+
+abbrev eleven-ticks : List Call
+eleven-ticks = arrive 0 ∷ step ∷ step ∷ arrive 1 ∷ arrive 2 ∷ step ∷ step ∷ step ∷ step ∷ step ∷ step ∷ step ∷ step ∷ step ∷ []
+
+pub quarters-admitted : tableAnswer usualPeriod quarters ≡ Done
+unfolding Computed
+quarters-admitted = refl
+
+pub first-so : own (told usualPeriod quarters eleven-ticks) 1 ≡ since 2 2
+unfolding Computed
+first-so = refl
+
+pub second-so : own (told usualPeriod quarters eleven-ticks) 2 ≡ since 2 1
+unfolding Computed
+second-so = refl
+
+abbrev From-2 : Activity → Type 0
+From-2 c = (0 < c .active) × (c .stretch .since .0 ≡ 2)
+
+pub all-from-2 : AllFrom quarters (told usualPeriod quarters eleven-ticks) 1 2
+all-from-2 zero o = absurd (no (o .its))
+  where
+    no : _≡_ {A = ℕ} 0 1 → ⊥
+    no e = omega arith
+all-from-2 (suc zero) o = subst From-2 (sym first-so) (omega arith, refl)
+all-from-2 (suc (suc zero)) o = subst From-2 (sym second-so) (omega arith, refl)
+all-from-2 (suc (suc (suc i))) o = absurd (not-suc-le-zero (le-of-suc-le-suc (le-of-suc-le-suc (le-of-suc-le-suc (o .among)))))
+
+pub application-near : shareOf 1 quarters * (11 - 2) + 16 ≡ 4 * grantedFrom (appOf quarters) 1 2 (told usualPeriod quarters eleven-ticks) + together quarters 1 (margin usualPeriod quarters)
+unfolding Computed
+application-near = refl
+
+pub application-promised : MoreThan 4 18 22 3
+unfolding Computed
+application-promised = own-share usualPeriod quarters quarters-admitted eleven-ticks .application 1 2 1 (record { among = lit< tt; its = refl }) all-from-2
