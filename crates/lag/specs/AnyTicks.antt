@@ -5,7 +5,7 @@
 --
 -- Below are a table and calls under which application 0, whose threads are both active from 20 on, has 2 of the 16 ticks from 20 to
 -- 35, where the sentence says more than 3. Thread 0, alone up to 20, had every tick on the share of the whole processor; so it is far
--- ahead of its own share at 20, and waits. traces/own-share-any-ticks.trace is the same with 1000 for 20, up to 2000.
+-- ahead of its own share at 20, and waits. traces/own-share-two-beginnings.trace is the same with 1000 for 20, up to 2000.
 use mathlib.Core.Path.{_≡_, refl, sym, ap, subst}
 use mathlib.Core.List.{List, [], _∷_}
 use Prim.Native.Nat.{ℕ, zero, suc, _*_, _-_, _≤_, _<_}
@@ -31,8 +31,10 @@ AllSince t hs a m = (i : ℕ) → Of t a i → (0 < own hs i .active) × (beganA
 
 -- the sentence, of the ticks since any such moment
 abbrev pub AnyTicks : Type 0
-AnyTicks = (usual : ℕ) (t : Table) → tableAnswer usual t ≡ Done → (cs : List Call) → (a m i : ℕ) → Of t a i → AllSince t (told usual t cs) a m
-    → MoreThan (t .q) (shareOf a t * (left usual t cs .clock .0 - m)) (together t a (margin usual t)) (grantedFrom (appOf t) a m (told usual t cs))
+AnyTicks = (usual : ℕ) (t : Table) → tableAnswer usual t ≡ Done → (cs : List Call)
+    → (a m i : ℕ) → Of t a i → AllSince t (told usual t cs) a m
+    → MoreThan (t .q) (shareOf a t * (left usual t cs .clock .0 - m)) (together t a (margin usual t))
+    (grantedFrom (appOf t) a m (told usual t cs))
 
 -- Q 10; application, share and period of three threads
 abbrev table : Table
@@ -62,7 +64,8 @@ pub second-so : own hs 1 ≡ record { active = 1; stretch = record { since = rec
 unfolding Computed
 second-so = refl
 
-active-from : (c : Activity) → 0 < c .active → c .stretch .since .0 ≤ 20 → (i : ℕ) → own hs i ≡ c → (0 < own hs i .active) × (beganAt hs i ≤ 20)
+active-from : (c : Activity) → 0 < c .active → c .stretch .since .0 ≤ 20 → (i : ℕ) → own hs i ≡ c
+    → (0 < own hs i .active) × (beganAt hs i ≤ 20)
 active-from c p l i e = subst (λ (d : Activity). (0 < d .active) × (d .stretch .since .0 ≤ 20)) (sym e) (p, l)
 
 both-active : AllSince table hs 0 20

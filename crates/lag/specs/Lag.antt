@@ -30,7 +30,8 @@ DueBy k e x = (x .e .0 *ℤ pos k) ≤ℤ pos (e * x .share)
 
 -- "a thread of it that waits and is behind": what P says of each such thread of the application a in the state s
 abbrev pub EachBehind : ℕ → State → (Thread → Type 0) → Type 0
-EachBehind a s P = (i : ℕ) → i < s .count → at (s .threads) i .app ≡ a → T (contends (at (s .threads) i)) → Behind (s .clock .0) (at (s .threads) i) → P (at (s .threads) i)
+EachBehind a s P = (i : ℕ) → i < s .count → at (s .threads) i .app ≡ a → T (contends (at (s .threads) i))
+    → Behind (s .clock .0) (at (s .threads) i) → P (at (s .threads) i)
 
 -- e / k is not past in the state s, and no deadline of a thread of the application a that waits and is behind is after it
 pub record Until (a : ℕ) (s : State) (k e : ℕ) : Type 0 where
@@ -66,7 +67,8 @@ module _ (t : Table) (s : State) (hs : List Happening) where
     -- "If none is behind, not at all."
     pub none-behind : (a : ℕ) → EachBehind a s (λ _. ⊥) → LagsNotAtAll (aheadOf a s)
     -- .. with Item 8's equation, while a stretch holds
-    pub capacity : (a k e : ℕ) → a < apps → Until a s k e → 0 < stands t hs a .active → Capacity (t .q) (shareOf a t) (othersOf a t) k e (s .clock .0) (stands t hs a .stretch)
+    pub capacity : (a k e : ℕ) → a < apps → Until a s k e → 0 < stands t hs a .active
+        → Capacity (t .q) (shareOf a t) (othersOf a t) k e (s .clock .0) (stands t hs a .stretch)
 
 -- ---- a table and a sequence of calls from its fresh start: after leaving, before arrivals
 module _ (usual : ℕ) (t : Table) (cs : List Call) where
@@ -78,4 +80,5 @@ module _ (usual : ℕ) (t : Table) (cs : List Call) where
 
 -- for every admitted table and every sequence of calls from a fresh start, refused ones among them
 abbrev pub Promised : Type 0
-Promised = (usual : ℕ) (t : Table) → tableAnswer usual t ≡ Done → (cs : List Call) → LagBound t (left usual t cs) (told usual t cs)
+Promised = (usual : ℕ) (t : Table) → tableAnswer usual t ≡ Done → (cs : List Call)
+    → LagBound t (left usual t cs) (told usual t cs)

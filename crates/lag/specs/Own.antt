@@ -91,12 +91,16 @@ module _ (usual : ℕ) (t : Table) (s : State) (hs : List Happening) where
     -- .. and the ticks that it had since are those of the history
     pub counted : (i : ℕ) → i < t .threads → 0 < own hs i .active → hadSince hs i ≡ grantedFrom (λ j. j) i (beganAt hs i) hs
     -- "A thread active for n ticks has had more than u × n / Q − 1 − u × P / Q of them"
-    pub thread : (i : ℕ) → i < t .threads → 0 < own hs i .active → MoreThan (t .q) (dueTo t (s .clock .0) hs i) (margin usual t i) (hadSince hs i)
+    pub thread : (i : ℕ) → i < t .threads → 0 < own hs i .active
+        → MoreThan (t .q) (dueTo t (s .clock .0) hs i) (margin usual t i) (hadSince hs i)
     -- "An application whose threads all became active at one moment", m, with a thread i: of the ticks since
-    pub application : (a m i : ℕ) → Of t a i → AllFrom t hs a m → MoreThan (t .q) (shareOf a t * (s .clock .0 - m)) (together t a (margin usual t)) (grantedFrom (appOf t) a m hs)
+    pub application : (a m i : ℕ) → Of t a i → AllFrom t hs a m
+        → MoreThan (t .q) (shareOf a t * (s .clock .0 - m)) (together t a (margin usual t)) (grantedFrom (appOf t) a m hs)
     -- "with the ticks of each thread counted from its own beginning", where these may differ
-    pub from-each-beginning : (a i : ℕ) → Of t a i → AllActive t hs a → MoreThan (t .q) (together t a (dueTo t (s .clock .0) hs)) (together t a (margin usual t)) (together t a (hadSince hs))
+    pub from-each-beginning : (a i : ℕ) → Of t a i → AllActive t hs a
+        → MoreThan (t .q) (together t a (dueTo t (s .clock .0) hs)) (together t a (margin usual t)) (together t a (hadSince hs))
 
 -- for every admitted table and every sequence of calls from a fresh start, refused ones among them
 abbrev pub Promised : Type 0
-Promised = (usual : ℕ) (t : Table) → tableAnswer usual t ≡ Done → (cs : List Call) → OwnShare usual t (left usual t cs) (told usual t cs)
+Promised = (usual : ℕ) (t : Table) → tableAnswer usual t ≡ Done → (cs : List Call)
+    → OwnShare usual t (left usual t cs) (told usual t cs)

@@ -35,13 +35,13 @@ state n now xs = record { threads = xs; count = n; had = nobody; q = 8; clock = 
 -- W = v, and thread 4 do not wait; the others, thread 0 and one that the table does not have, are behind and due late
 abbrev at-10 : ℤ → ℤ → ℤ → State
 at-10 w e v = state 5 10 (
-  thread Contending 0 3 3 (negsuc 99) (pos 900)
-  ∷ thread Contending 15 2 4 w e
-  ∷ thread Contending 15 1 8 (pos 10) (pos 900)
-  ∷ thread NonContending 15 1 8 v (pos 900)
-  ∷ thread Inactive 15 1 8 (pos 0) (pos 900)
-  ∷ thread Contending 15 1 8 (negsuc 99) (pos 900)
-  ∷ replicate 58 blank)
+    thread Contending 0 3 3 (negsuc 99) (pos 900)
+    ∷ thread Contending 15 2 4 w e
+    ∷ thread Contending 15 1 8 (pos 10) (pos 900)
+    ∷ thread NonContending 15 1 8 v (pos 900)
+    ∷ thread Inactive 15 1 8 (pos 0) (pos 900)
+    ∷ thread Contending 15 1 8 (negsuc 99) (pos 900)
+    ∷ replicate 58 blank)
 
 -- so that thread 1 is the only one of it that may wait and be behind
 one-behind : (P : Thread → Type 0) (w e v : ℤ) → (Behind 10 (thread Contending 15 2 4 w e) → P (thread Contending 15 2 4 w e)) → EachBehind 15 (at-10 w e v) P

@@ -1,4 +1,4 @@
--- The lag bound and the own share speak of something: their premises are met, the lag bound is reached, and a thread is behind.
+-- The lag bound and the own share speak of something: their premises are met by calls, the lag bound is reached, and a thread is behind.
 use mathlib.Core.Path.{_≡_, refl, sym, subst}
 use mathlib.Core.Bool.{false}
 use mathlib.Core.List.{List, [], _∷_}
@@ -15,7 +15,8 @@ use Rattle.rules.specs.Table.{Row, Table, Done, tableAnswer}
 use Rattle.rules.specs.Calls.{Call, arrive, step}
 use Rattle.rules.specs.Stretches.{Activity, aheadOf, elapsed, appOf, shareOf}
 use Rattle.stretches.specs.Item8.{Balanced}
-use Rattle.lag.specs.Lag.{Behind, DueBy, EachBehind, Until, left, told, stands, othersOf}
+use Rattle.lag.specs.Lag.{Behind, DueBy, EachBehind, Until, left, told, stands, othersOf, LagsByNoMore, LagsNotAtAll, Capacity}
+use Rattle.lag.specs.LagProved.{lag-bound}
 use Rattle.lag.specs.Own.{grantedFrom, MoreThan, own, dueTo, margin, together, AllFrom}
 use Rattle.lag.specs.OwnProved.{own-share}
 use Rattle.lag.specs.Computed.{Computed}
@@ -91,6 +92,29 @@ balanced h = refl
 pub capacity-reached : pos (1 * (shareOf 1 thirds * elapsed 1 (since 0 0 .stretch))) ≡ pos 1 *ℤ (pos (3 * 0) +ℤ pos 0) +ℤ pos (othersOf 1 thirds * (3 - 1 * 1))
 unfolding Computed
 capacity-reached = refl
+
+-- .. which are promised
+pub lag-promised : LagsByNoMore 1 1 3 1 (negsuc 1)
+unfolding Computed
+lag-promised = lag-bound usualPeriod thirds thirds-admitted at-once .lag 1 1 3 until-3
+
+pub capacity-promised : Capacity 3 2 1 1 3 1 (since 0 0 .stretch)
+unfolding Computed
+capacity-promised = lag-bound usualPeriod thirds thirds-admitted at-once .capacity 1 1 3 (lit< tt) until-3 (lit< tt)
+
+-- ---- application 0 is 2 ahead then, and its thread, which waits, is not behind
+none-behind : EachBehind 0 at-1 (λ _. ⊥)
+none-behind zero h o c b = b .lt
+none-behind (suc zero) h o c b = absurd c
+none-behind (suc (suc zero)) h o c b = absurd (no o)
+  where
+    no : _≡_ {A = ℕ} 1 0 → ⊥
+    no e = omega arith
+none-behind (suc (suc (suc i))) h o c b = absurd (not-suc-le-zero (le-of-suc-le-suc (le-of-suc-le-suc (le-of-suc-le-suc h))))
+
+pub none-behind-promised : LagsNotAtAll (pos 2)
+unfolding Computed
+none-behind-promised = lag-bound usualPeriod thirds thirds-admitted at-once .none-behind 0 none-behind
 
 -- ---- a thread that had 1 of 4 ticks, with half of the processor: 1 × 4 is 3 below 2 × 1 + 2 + 1 × 3
 abbrev halves : Table
