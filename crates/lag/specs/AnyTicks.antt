@@ -4,8 +4,8 @@
 --   u × n / Q − 1 − u × P / Q."
 --
 -- Below are a table and calls under which application 0, whose threads are both active from 20 on, has 2 of the 16 ticks from 20 to
--- 35, where the sentence says more than 3. Thread 0, alone up to 20, had every tick on the share of the whole processor; so it is far
--- ahead of its own share at 20, and waits. traces/own-share-two-beginnings.trace is the same with 1000 for 20, up to 2000.
+-- 35, where the sentence says more than 3. Thread 0 was alone up to 20 and had every tick, so that it is far ahead of its own share
+-- then, and waits. traces/own-share-two-beginnings.trace is the same with 1000 for 20, up to 2000.
 use mathlib.Core.Path.{_≡_, refl, sym, ap, subst}
 use mathlib.Core.List.{List, [], _∷_}
 use Prim.Native.Nat.{ℕ, zero, suc, _*_, _-_, _≤_, _<_}

@@ -15,7 +15,7 @@ use Rattle.rules.specs.Drop.{dropped}
 use Rattle.rules.specs.Choice.{chosen, idled}
 use Rattle.rules.specs.Charge.{charged, moved}
 use Rattle.rules.specs.Step.{Stepped, ready, stepped}
-use Rattle.rules.specs.Run.{Ran, stateAfter, ran}
+use Rattle.rules.specs.Run.{Ran, stateAfter}
 use Rattle.rules.specs.Calls as calls
 use Rattle.rules.specs.Calls.{Call, apply, after}
 use Rattle.rules.specs.History.{Happening, completed, arrived, dropped-to-head, granted, idle-tick, became-active, became-inactive, ifDone, retiring, waking, leavings, tickAs, tickOf, ticksOf, runAs, happens, history}
