@@ -188,6 +188,10 @@ stored! {
     "run-to-present", "a run to the present does nothing, also before a completion", "head 8 1; row 0 2 4; arr 0 0; run 0; run 2; run 2; done 2 0; run 2; run 4; run 4";
     "run-long", "a listing longer than 65,536 bytes, from a short trace", worked_table!("arr 0 0; arr 0 2; arr 2 1; run 4000");
 
+    // What is promised in time.
+    "own-share-two-beginnings", "application 0, all of it active from 1,000 on but not since one moment, has 250 of the 1,000 ticks from there",
+        "head 10 3; row 0 4 5; row 0 1 10; row 1 5 4; arr 0 0; arr 1000 1; arr 1000 2; run 2000";
+
     // Events refused.
     "event-08-thread", "a thread number not in the table is refused 8; nothing is listed for it", worked_table!("arr 0 0; run 2; arr 4 3; run 6");
     "event-08-thread-65535", "thread 65,535 is refused 8", worked_table!("drop 0 65535");

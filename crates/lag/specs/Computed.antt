@@ -15,8 +15,8 @@ use Rattle.rules.specs.Run.{stateAfter, rowAfter, ran}
 use Rattle.rules.specs.Calls.{after}
 use Rattle.rules.specs.History.{leavingTo, leavings, retiring, waking, tickOf, ticksOf, history, account}
 use Rattle.rules.specs.Stretches.{wakes, runs, rests, forgets, noted, activities, shareTo, total, grantedIn}
-use Rattle.lag.specs.Own.{overTo}
+use Rattle.lag.specs.Own.{grantedFrom, overTo}
 
 unfoldable pub Computed : Type 0
-unfolding sumBy mapTo freeShare earliest loseAt headAnswer rowAnswer sharesTo rowsAnswer tableAnswer openedTo start gives completing afterCompletion completion leave gone arrivals.arrive arrival fit fitted idled benefits charged moved stepped stateAfter rowAfter ran after leavingTo leavings retiring waking tickOf ticksOf history account wakes runs rests forgets noted activities shareTo total grantedIn overTo
+unfolding sumBy mapTo freeShare earliest loseAt headAnswer rowAnswer sharesTo rowsAnswer tableAnswer openedTo start gives completing afterCompletion completion leave gone arrivals.arrive arrival fit fitted idled benefits charged moved stepped stateAfter rowAfter ran after leavingTo leavings retiring waking tickOf ticksOf history account wakes runs rests forgets noted activities shareTo total grantedIn grantedFrom overTo
 Computed = Unit {0}

@@ -20,7 +20,7 @@ use Rattle.promises.specs.Ready.{gone-good}
 use Rattle.promises.specs.Always.{after-good}
 use Rattle.stretches.specs.Shares.{own-shares}
 use Rattle.stretches.specs.Proved.{item-8}
-use Rattle.lag.specs.Lag.{EachBehind, othersOf, left, moment, stands, Until, Promised}
+use Rattle.lag.specs.Lag.{EachBehind, othersOf, LagsByNoMore, LagsNotAtAll, stands, left, told, Until, Promised}
 use Rattle.lag.specs.Claimed.{Counts, all-cover}
 use Rattle.lag.specs.Rows.{left-good, tied, all-shares, own-within}
 
@@ -41,14 +41,14 @@ module _ (usual : ℕ) (t : Table) (ok : tableAnswer usual t ≡ Done) (cs : Lis
   abbrev s : State
   s = left usual t cs
 
-  counts : (a k e : ℕ) → Until usual t cs a k e → All (Counts a (s .clock .0) k e) (take (s .count) (s .threads))
+  counts : (a k e : ℕ) → Until a s k e → All (Counts a (s .clock .0) k e) (take (s .count) (s .threads))
   counts a k e u =
       let r = left-good usual t ok cs .rows in
       all-of (s .count) (s .threads) blank (omega (arith, r .few, r .long))
       (λ i h. (all-at (s .count) (s .threads) i blank (gone-good (after-good cs (start-good usual t ok)) .1) h (inside r h), λ o c b. u .latest i h o c b))
 
   -- what a is ahead, by its parts
-  bound : (a k e : ℕ) → Until usual t cs a k e → k * dn (aheadOf a s) ≤ k * up (aheadOf a s) + othersOf a t * (e - k * s .clock .0)
+  bound : (a k e : ℕ) → Until a s k e → k * dn (aheadOf a s) ≤ k * up (aheadOf a s) + othersOf a t * (e - k * s .clock .0)
   bound a k e u =
       let m = s .clock .0 in
       let xs = take (s .count) (s .threads) in
@@ -58,13 +58,13 @@ module _ (usual : ℕ) (t : Table) (ok : tableAnswer usual t ≡ Done) (cs : Lis
       (rw (← all-shares usual t ok cs) (left-good usual t ok cs .rows .claims k e (u .whole) (u .ahead))) in
       omega (arith, b, ap (λ (z : ℕ). k * z) (total-parts (aheadIn a m) xs))
 
-  lag-is : (a k e : ℕ) → Until usual t cs a k e → pos 0 ≤ℤ (pos k *ℤ aheadOf a s +ℤ pos (othersOf a t * (e - k * s .clock .0)))
+  lag-is : (a k e : ℕ) → Until a s k e → LagsByNoMore (othersOf a t) k e (s .clock .0) (aheadOf a s)
   lag-is a k e u =
       let z = pos k *ℤ aheadOf a s in
       let p = add-parts z (pos (othersOf a t * (e - k * s .clock .0))) in
       parts-le _ _ (omega (arith, bound a k e u, times-up k (aheadOf a s), times-dn k (aheadOf a s), p .eq))
 
-  none-is : (a : ℕ) → EachBehind a s (λ _. ⊥) → pos 0 ≤ℤ aheadOf a s
+  none-is : (a : ℕ) → EachBehind a s (λ _. ⊥) → LagsNotAtAll (aheadOf a s)
   none-is a f =
       let b = bound a 1 (1 * s .clock .0) (record { whole = omega arith; ahead = omega arith; latest = λ i h o c b. absurd (f i h o c b) }) in
       parts-le _ _ (omega (arith, b, ap (λ (n : ℕ). othersOf a t * n) nothing))
@@ -100,7 +100,7 @@ lag-bound usual t ok cs = record {
 }
   where
     m : ℕ
-    m = moment usual t cs
+    m = left usual t cs .clock .0
 
     c : ℕ → Stretch
-    c a = stands usual t cs a .stretch
+    c a = stands t (told usual t cs) a .stretch

@@ -3,11 +3,16 @@ pub mod Claimed
 pub mod Rows
 pub mod LagProved
 pub mod Own
+pub mod Sums
 pub mod Mine
 pub mod Held
 pub mod Kept
 pub mod Along
+pub mod Paced
+pub mod Ticks
 pub mod OwnProved
 pub mod Computed
 pub mod Theorem2
+pub mod AnyTicks
 pub mod Witness
+pub mod Refuted

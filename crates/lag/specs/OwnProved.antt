@@ -1,34 +1,35 @@
--- A thread has its own share, from what holds between it and its own stretch.
-use mathlib.Core.Path.{_≡_, refl, ap, ap₂, _∙_}
-use mathlib.Core.Bool.{Bool, true, false, not, cond}
-use mathlib.Core.List.{List, _++_}
-use Prim.Native.Nat.{ℕ, zero, suc, _+_, _*_, _-_, _≤_, _<_}
-use native.Mathlib.Decide.{ℕ-discrete}
-use native.Mathlib.Nat.{mul-le-mul-left, not-suc-le-zero}
+-- A thread has its own share, from what holds between it and its own stretch, and so has an application, thread by thread.
+use mathlib.Core.Path.{_≡_, refl, sym, ap, ap₂, _∙_, subst}
+use mathlib.Core.Bool.{not, cond}
+use mathlib.Core.List.{List}
+use Prim.Native.Nat.{ℕ, _+_, _*_, _-_, _≤_, _<_}
 use native.Mathlib.Omega.{arith}
-use borrow.Author.Tests.{eqb-true, eq-eqb}
-use lib.Dec.{T, eqb}
+use lib.Dec.{T}
 use lib.ListN.{replicate, length-replicate, getD-replicate}
 use Rattle.integers.specs.Parts.{up, dn}
 use Rattle.lists.specs.All.{all-at}
+use Rattle.quantities.specs.declared.Moment.{Moment}
 use Rattle.rules.specs.Limits.{maxThreads}
 use Rattle.rules.specs.Threads.{Thread, State, Phase, Inactive, Contending, NonContending, blank, at, isInactive, isContending, isNon, active}
 use Rattle.rules.specs.Table.{Table, Done, tableAnswer, rowAt, start}
 use Rattle.rules.specs.Calls.{Call}
-use Rattle.rules.specs.History.{leavings}
-use Rattle.rules.specs.Stretches.{Activity, quiet, elapsed, appOf, shareOf, shareTo}
+use Rattle.rules.specs.History.{Happening, leavings}
+use Rattle.rules.specs.Stretches.{Activity, quiet, appOf}
 use Rattle.stretches.specs.Item8.{now, past}
 use Rattle.promises.specs.Good.{Good, Fine, Ahead}
 use Rattle.promises.specs.Keep.{inside, fine-at}
 use Rattle.promises.specs.Begin.{start-good}
-use Rattle.promises.specs.Ready.{gone-good}
+use Rattle.promises.specs.Ready.{gone-beside, gone-good}
 use Rattle.promises.specs.Always.{after-good}
-use Rattle.lag.specs.Lag.{left, moment}
-use Rattle.lag.specs.Own.{own, overTo, shareAt, grantedTo, margin, together, AllActive, Promised}
-use Rattle.lag.specs.Mine.{mine-append, activities-mine}
+use Rattle.lag.specs.Lag.{left, told}
+use Rattle.lag.specs.Own.{grantedFrom, MoreThan, own, beganAt, hadSince, dueTo, margin, together, Of, AllFrom, Promised}
+use Rattle.lag.specs.Sums.{over-less, over-some, over-shares}
+use Rattle.lag.specs.Mine.{mine, mine-append, activities-mine}
 use Rattle.lag.specs.Held.{HeldAs, Held}
 use Rattle.lag.specs.Kept.{Kept, gone-kept}
 use Rattle.lag.specs.Along.{after-kept}
+use Rattle.lag.specs.Paced.{Paced, paced-append, leavings-paced, history-paced}
+use Rattle.lag.specs.Ticks.{Counted, all-counted, over-ticks}
 use Rattle.lag.specs.Rows.{few, begun-at, left-good, share-is, period-is, q-is}
 
 -- ---- one thread, after leaving
@@ -61,36 +62,6 @@ since-less u t s b l h = go (t - s) (omega arith)
     go : (m : ℕ) → t ≡ s + m → u * m < b
     go m e = omega (arith, h, ap (λ (z : ℕ). u * z) e)
 
--- ---- the threads of an application together
-module _ (app : ℕ → ℕ) (a : ℕ) where
-  -- each of them by one
-  over-less : (n : ℕ) (f g h : ℕ → ℕ) (m q : ℕ) → ((i : ℕ) → i < n → app i ≡ a → f i * m < q * g i + h i)
-      → overTo app a f n * m + overTo app a (λ _. 1) n ≤ q * overTo app a g n + overTo app a h n
-  unfolding overTo
-  over-less zero f g h m q k = omega arith
-  over-less (suc n) f g h m q k = go (over-less n f g h m q (λ i l. k i (omega arith))) (k n (omega arith)) (eqb (app n) a) refl
-    where
-      go : overTo app a f n * m + overTo app a (λ _. 1) n ≤ q * overTo app a g n + overTo app a h n → (app n ≡ a → f n * m < q * g n + h n) → (b : Bool) → eqb (app n) a ≡ b
-          → (overTo app a f n + cond b (f n) 0) * m + (overTo app a (λ _. 1) n + cond b 1 0) ≤ q * (overTo app a g n + cond b (g n) 0) + (overTo app a h n + cond b (h n) 0)
-      go r l true e = omega (arith, r, l (eqb-true (app n) a e))
-      go r l false e = omega (arith, r)
-
-  -- there is one
-  over-some : (n i : ℕ) → i < n → app i ≡ a → 1 ≤ overTo app a (λ _. 1) n
-  unfolding overTo
-  over-some zero i l e = absurd (not-suc-le-zero l)
-  over-some (suc n) i l e = go (over-some n i) (ℕ-discrete n i)
-    where
-      go : (i < n → app i ≡ a → 1 ≤ overTo app a (λ _. 1) n) → Dec (n ≡ i) → 1 ≤ overTo app a (λ _. 1) n + cond (eqb (app n) a) 1 0
-      go r (yes k) = rw (eq-eqb (app n) a (ap app k ∙ e)) (omega arith)
-      go r (no k) = omega (arith, r (omega arith) e)
-
--- the share of an application is such a sum
-over-shares : (a : ℕ) (t : Table) (n : ℕ) → overTo (appOf t) a (λ i. rowAt (t .rows) i .share) n ≡ shareTo a (t .rows) n
-unfolding overTo shareTo
-over-shares a t zero = refl
-over-shares a t (suc n) = ap (λ (k : ℕ). k + cond (eqb (appOf t n) a) (rowAt (t .rows) n .share) 0) (over-shares a t n)
-
 module _ (usual : ℕ) (t : Table) (ok : tableAnswer usual t ≡ Done) (cs : List Call) where
   begins-good : Good (start usual t)
   begins-good = start-good usual t ok
@@ -107,19 +78,24 @@ module _ (usual : ℕ) (t : Table) (ok : tableAnswer usual t ≡ Done) (cs : Lis
   abbrev s : State
   s = left usual t cs
 
-  -- the own stretch is where the thread stands
-  stands : (i : ℕ) → i < t .threads → Kept i (own usual t cs i) s
-  stands i h = rw (
-    activities-mine (past usual t cs ++ leavings (now usual t cs)) (replicate maxThreads quiet) i (omega (arith, length-replicate maxThreads quiet, few usual t ok cs)),
-    getD-replicate maxThreads i quiet quiet (omega (arith, few usual t ok cs)),
-    mine-append i quiet (past usual t cs) (leavings (now usual t cs)),
-  ) (gone-kept (after-kept cs begins-good (first-kept i h)))
+  abbrev hs : List Happening
+  hs = told usual t cs
 
-  one-thread : (i : ℕ) → i < t .threads → 0 < own usual t cs i .active
-      → (own usual t cs i .stretch .since .0 ≤ moment usual t cs) × (shareAt usual t cs i * elapsed (moment usual t cs) (own usual t cs i .stretch) < t .q * grantedTo usual t cs i + margin usual t cs i)
+  abbrev now-at : ℕ
+  now-at = s .clock .0
+
+  -- the own stretch, read off for thread i alone, is where the thread stands
+  alone : (i : ℕ) → i < t .threads → own hs i ≡ mine i quiet hs
+  alone i h = activities-mine hs (replicate maxThreads quiet) i (omega (arith, length-replicate maxThreads quiet, few usual t ok cs))
+      ∙ ap (λ (c : Activity). mine i c hs) (getD-replicate maxThreads i quiet quiet (omega (arith, few usual t ok cs)))
+
+  stands : (i : ℕ) → i < t .threads → Kept i (own hs i) s
+  stands i h = rw (alone i h, mine-append i quiet (past usual t cs) (leavings (now usual t cs))) (gone-kept (after-kept cs begins-good (first-kept i h)))
+
+  one-thread : (i : ℕ) → i < t .threads → 0 < own hs i .active → (beganAt hs i ≤ now-at) × MoreThan (t .q) (dueTo t now-at hs i) (margin usual t i) (hadSince hs i)
   one-thread i h p =
       let k = stands i h in
-      let c = own usual t cs i .stretch in
+      let c = own hs i .stretch in
       let x = at (s .threads) i in
       let r = left-good usual t ok cs .rows in
       let w = within x (k .held) (fine-at r i (k .inside)) (all-at (s .count) (s .threads) i blank (gone-good (after-good cs begins-good) .1) (k .inside) (k .among)) p in
@@ -127,28 +103,48 @@ module _ (usual : ℕ) (t : Table) (ok : tableAnswer usual t ≡ Done) (cs : Lis
       let f = period-is usual t ok cs i h in
       let g = q-is usual t ok cs in (
         w .0,
-        since-less (shareAt usual t cs i) (moment usual t cs) (c .since .0) (t .q * c .granted + margin usual t cs i) (w .0)
-            (omega (arith, w .1, ap (λ (u : ℕ). u * moment usual t cs) e, ap (λ (u : ℕ). u * c .since .0) e, ap₂ _*_ e f, ap (λ (q : ℕ). q * c .granted) g, g)),
+        since-less (rowAt (t .rows) i .share) now-at (c .since .0) (t .q * c .granted + margin usual t i) (w .0)
+            (omega (arith, w .1, ap (λ (u : ℕ). u * now-at) e, ap (λ (u : ℕ). u * c .since .0) e, ap₂ _*_ e f, ap (λ (q : ℕ). q * c .granted) g, g)),
       )
 
-  -- each of the threads of a, active since m at the latest
-  since-m : (a m : ℕ) → AllActive usual t cs a m → (i : ℕ) → i < t .threads → appOf t i ≡ a → shareAt usual t cs i * (moment usual t cs - m) < t .q * grantedTo usual t cs i + margin usual t cs i
-  since-m a m all i h e =
-      let p = all i h e in
-      omega (arith, one-thread i h (p .0) .1, mul-le-mul-left (shareAt usual t cs i) (less (p .1)))
-    where
-      less : own usual t cs i .stretch .since .0 ≤ m → moment usual t cs - m ≤ elapsed (moment usual t cs) (own usual t cs i .stretch)
-      less l = omega arith
+  -- the history goes tick by tick
+  paced : Paced (t .threads) 0 hs now-at
+  unfolding start
+  paced = subst (λ (m : ℕ). Paced (t .threads) 0 hs m) (sym (ap (λ (m : Moment). m .0) (gone-beside (now usual t cs) .clock)))
+      (paced-append (history-paced cs (start usual t) refl) (leavings-paced (now usual t cs .clock .0) (now usual t cs)))
 
-  all-threads : (a m : ℕ) → AllActive usual t cs a m
-      → shareOf a t * (moment usual t cs - m) + together usual t cs a (λ _. 1) ≤ t .q * together usual t cs a (grantedTo usual t cs) + together usual t cs a (margin usual t cs)
-  all-threads a m all = rw (← over-shares a t (t .threads)) (over-less (appOf t) a (t .threads) (shareAt usual t cs) (grantedTo usual t cs) (margin usual t cs) (moment usual t cs - m) (t .q) (since-m a m all))
+  all-had : (i : ℕ) → i < t .threads → 0 < own hs i .active → hadSince hs i ≡ grantedFrom (λ j. j) i (beganAt hs i) hs
+  all-had i h =
+      subst (λ (c : Activity). 0 < c .active → c .stretch .granted ≡ grantedFrom (λ j. j) i (c .stretch .since .0) hs) (sym (alone i h))
+      (λ p. omega (arith, all-counted i paced first .same p))
+    where
+      first : Counted (λ _. 0) 0 quiet
+      first = record { none-yet = λ _ _. refl; begun = λ _. omega arith; same = λ _. refl }
+
+  -- all the threads of a, of which i is one
+  summed : (a i : ℕ) → Of t a i → (due had : ℕ → ℕ) → ((j : ℕ) → Of t a j → MoreThan (t .q) (due j) (margin usual t j) (had j))
+      → MoreThan (t .q) (together t a due) (together t a (margin usual t)) (together t a had)
+  summed a i o due had k = omega (
+    arith,
+    over-less (appOf t) a (t .threads) due had (margin usual t) (t .q) (λ j l e. k j (record { among = l; its = e })),
+    over-some (appOf t) a (t .threads) i (o .among) (o .its),
+  )
+
+  -- one beginning
+  from-one : (a m : ℕ) → AllFrom t hs a m → (j : ℕ) → Of t a j → MoreThan (t .q) (rowAt (t .rows) j .share * (now-at - m)) (margin usual t j) (grantedFrom (λ k. k) j m hs)
+  from-one a m all j o =
+      let p = all j o in
+      subst (λ (z : ℕ). MoreThan (t .q) (rowAt (t .rows) j .share * (now-at - z)) (margin usual t j) (grantedFrom (λ k. k) j z hs)) (p .1)
+      (subst (MoreThan (t .q) (dueTo t now-at hs j) (margin usual t j)) (all-had j (o .among) (p .0)) (one-thread j (o .among) (p .0) .1))
 
 pub own-share : Promised
 own-share usual t ok cs = record {
   holds = λ i h. counted (at (left usual t cs .threads) i) (stands usual t ok cs i h .held);
   begun = λ i h p. one-thread usual t ok cs i h p .0;
+  counted = all-had usual t ok cs;
   thread = λ i h p. one-thread usual t ok cs i h p .1;
-  application = λ a m all. omega (arith, all-threads usual t ok cs a m all);
-  by-less = λ a m all i h e. omega (arith, all-threads usual t ok cs a m all, over-some (appOf t) a (t .threads) i h e);
+  application = λ a m i o all.
+      rw (← over-shares a t (left usual t cs .clock .0 - m) (t .threads), over-ticks (appOf t) a m (paced usual t ok cs))
+      (summed usual t ok cs a i o (λ j. rowAt (t .rows) j .share * (left usual t cs .clock .0 - m)) (λ j. grantedFrom (λ k. k) j m (told usual t cs)) (from-one usual t ok cs a m all));
+  from-each-beginning = λ a i o all. summed usual t ok cs a i o (dueTo t (left usual t cs .clock .0) (told usual t cs)) (hadSince (told usual t cs)) (λ j p. one-thread usual t ok cs j (p .among) (all j p) .1);
 }

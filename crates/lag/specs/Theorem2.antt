@@ -9,16 +9,16 @@
 -- with 3 ticks at 7.5, and the greatest period of the application is 10; but it has its third tick only at 19. Thread 0, alone,
 -- runs ahead on its own small share, and its deadline, 30, stays when the free share of thread 1 is taken from its W.
 -- The lag bound holds of it, as of everything.
-use mathlib.Core.Path.{_≡_, refl, sym, subst}
+use mathlib.Core.Path.{_≡_, refl, subst}
 use mathlib.Core.Bool.{false}
 use mathlib.Core.List.{List, [], _∷_, _++_}
-use Prim.Native.Nat.{ℕ, zero, suc, _+_, _*_, _-_, _≤_, _<_, max}
+use Prim.Native.Nat.{ℕ, zero, suc, _+_, _*_, _-_, _<_, max}
 use native.Mathlib.Nat.{not-suc-le-zero, le-of-suc-le-suc}
 use native.Mathlib.Omega.{arith}
 use lib.Dec.{lit<}
-use lib.IntN.{pos, negsuc, _+ℤ_, _*ℤ_}
+use lib.IntN.{pos, negsuc}
 use lib.ListN.{replicate}
-use lib.Signed.{leZ-yes, _≤ℤ_}
+use lib.Signed.{leZ-yes}
 use Rattle.rules.specs.Limits.{usualPeriod}
 use Rattle.rules.specs.Threads.{State, Inactive, Contending, blank, amt}
 use Rattle.rules.specs.Table.{Table, Done, tableAnswer, start, rowAt}
@@ -26,7 +26,7 @@ use Rattle.rules.specs.Run.{rowAfter}
 use Rattle.rules.specs.Calls.{Call, arrive, step, run, complete, after}
 use Rattle.rules.specs.History.{history, noJobs, account}
 use Rattle.rules.specs.Stretches.{shareOf, aheadOf, appOf, grantedIn}
-use Rattle.lag.specs.Lag.{EachBehind, DueBy, Until, left, stands, othersOf}
+use Rattle.lag.specs.Lag.{EachBehind, DueBy, Until, left, told, stands, othersOf, LagsByNoMore}
 use Rattle.lag.specs.LagProved.{lag-bound}
 use Rattle.lag.specs.Computed.{Computed}
 
@@ -112,7 +112,7 @@ pub behind-by : aheadOf 0 at-18 ≡ negsuc 51
 unfolding Computed
 behind-by = refl
 
-pub stands-so : stands usualPeriod table up-to-18 0 ≡ record { active = 1; stretch = record { since = record { 0 = 0 }; granted = 2; lost = amt (pos 0) } }
+pub stands-so : stands table (told usualPeriod table up-to-18) 0 ≡ record { active = 1; stretch = record { since = record { 0 = 0 }; granted = 2; lost = amt (pos 0) } }
 unfolding Computed
 stands-so = refl
 
@@ -130,13 +130,9 @@ latest (suc (suc zero)) h o c b = absurd (no o)
     no e = omega arith
 latest (suc (suc (suc i))) h o c b = absurd (not-suc-le-zero (le-of-suc-le-suc (le-of-suc-le-suc (le-of-suc-le-suc h))))
 
-pub until-30 : Until usualPeriod table up-to-18 0 1 30
-until-30 = record {
-  whole = omega arith;
-  ahead = subst (λ (s : State). 1 * s .clock .0 ≤ 30) (sym comes-to) (omega arith);
-  latest = subst (λ (s : State). EachBehind 0 s (DueBy 1 30)) (sym comes-to) latest;
-}
+pub until-30 : Until 0 at-18 1 30
+until-30 = record { whole = omega arith; ahead = omega arith; latest = latest }
 
 -- .. so the bound says that 52 is at most 72
-pub bounded : pos 0 ≤ℤ (pos 1 *ℤ aheadOf 0 at-18 +ℤ pos (othersOf 0 table * (30 - 1 * 18)))
-bounded = subst (λ (s : State). pos 0 ≤ℤ (pos 1 *ℤ aheadOf 0 s +ℤ pos (othersOf 0 table * (30 - 1 * s .clock .0)))) comes-to (lag-bound usualPeriod table admitted up-to-18 .lag 0 1 30 until-30)
+pub bounded : LagsByNoMore (othersOf 0 table) 1 30 18 (aheadOf 0 at-18)
+bounded = subst (λ (s : State). Until 0 s 1 30 → LagsByNoMore (othersOf 0 table) 1 30 (s .clock .0) (aheadOf 0 s)) comes-to (lag-bound usualPeriod table admitted up-to-18 .lag 0 1 30) until-30
