@@ -46,6 +46,13 @@ macro_rules! worked_table {
     };
 }
 
+/// The smallest table: Q 1 and one thread of share 1 and period 1.
+macro_rules! smallest_table {
+    ($rest:literal) => {
+        concat!("head 1 1; row 0 1 1; ", $rest)
+    };
+}
+
 stored! {
     "worked", "the worked example of document 01; its listing is copied from the document",
         worked_table!("arr 0 0; arr 0 2; arr 2 1; done 5 0; done 6 1; done 7 2; run 8");
@@ -244,6 +251,35 @@ stored! {
     "place-head-among-rows", "a second head among the rows is refused 16", "head 10 2; row 0 5 2; head 10 2";
     "place-head-among-events", "a second head among events is refused 16", worked_table!("arr 0 0; run 2; head 10 1");
     "place-row-among-events", "a row more than the head says is refused 16", worked_table!("row 1 1 10; arr 0 0");
+
+    // Just at a limit, or where two refusals hold at once, on small tables.
+    "table-04-share-4096", "the greatest share, 4,096, is admitted", "head 4096 1; row 0 4096 1";
+    "table-06-one-below-q", "u x P = Q - 1 is refused 6", "head 10 1; row 0 3 3";
+    "arrival-last", "an arrival at the clock is the last record: no tick is run", smallest_table!("arr 0 0");
+    "event-08-drop", "a drop of the number after the last thread's is refused 8", smallest_table!("drop 0 1");
+    "event-08-before-9", "8 is given before 9", smallest_table!("done 0 1");
+    "event-08-before-10", "8 is given before 10", smallest_table!("arr 0 0; done 0 1");
+    "event-09-second-no-job", "a second completion at a moment is refused 9, where no job is left",
+        smallest_table!("arr 0 0; done 1 0; done 1 0");
+    "event-10-at-0", "10 is given before 9 at moment 0 too", smallest_table!("arr 0 0; done 0 0");
+    "event-10-own-arrival", "a completion after an arrival of the same thread is refused 10",
+        smallest_table!("arr 0 0; arr 1 0; done 1 0");
+    "event-12-arrival", "an arrival one tick before the clock is refused 12", smallest_table!("run 5; arr 4 0");
+    "event-13-arrival", "an arrival at 2,147,483,648 is refused 13", smallest_table!("arr 2147483648 0");
+    "event-13-run", "a run to 2,147,483,648 is refused 13", smallest_table!("run 2147483648");
+    "input-head-of-64-only", "a head of 64 threads is taken, and then its rows are missing", "head 64 64";
+    "input-cut-in-last-row", "the input ends one byte before the end of the last row", "head 10 1; row 0 10 1; cut 1";
+    "input-length-0-kind-unknown", "a length of 0 is refused 14, before 15", smallest_table!("raw 0 7 0");
+    "input-length-2", "a length of 2 for an arrival is refused 14", smallest_table!("raw 2 3 0");
+    "input-length-5-out-of-place", "a head of length 5 among events is refused 14, before 16",
+        smallest_table!("bytes 5 0 1 0 1 0 1");
+    "input-kind-0", "a record of kind 0, long as an arrival, is refused 15", smallest_table!("raw 8 0 6");
+    "place-event-after-head", "an event in the place of the first row is refused 16", "head 10 1; arr 0 0";
+    "place-head-after-head", "a second head in the place of the first row is refused 16", "head 10 1; head 10 1";
+    "place-head-after-rows", "a second head in the place of the first event is refused 16", smallest_table!("head 1 1");
+    "place-order-16-1", "16 is given before 1", smallest_table!("head 0 1");
+    "place-order-16-3", "16 is given before 3", smallest_table!("row 16 1 1");
+    "place-order-16-13", "16 is given before 13", "head 10 1; arr 2147483648 0";
 
     // Longer than a window.
     "window-arrivals-and-drops", "an input longer than 131,072 bytes, with a record across its 131,072nd byte, then ticks",
