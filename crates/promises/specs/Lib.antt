@@ -1,5 +1,7 @@
+pub mod Demand1
 pub mod Demand3
 pub mod Refused
+pub mod Refuted
 pub mod Cases
 pub mod Branches
 pub mod Happenings

@@ -1,0 +1,111 @@
+-- Just outside of what demands 1 and 3 promise: each predicate of theirs refuses what misses it by one, on numbers and in general,
+-- so that none of them says less than its name.
+use mathlib.Core.Path.{_≡_, ap}
+use mathlib.Core.Bool.{false}
+use mathlib.Core.List.{List, [], _∷_}
+use mathlib.Core.Option.{none}
+use Prim.Native.Nat.{ℕ, _+_, _*_, _≤_, _<_}
+use native.Mathlib.Omega.{arith}
+use lib.IntN.{ℤ, pos}
+use lib.ListN.{getD, length}
+use Rattle.integers.specs.Parts.{_≺_, le-parts}
+use Rattle.lists.specs.Sum.{sumBy}
+use Rattle.rules.specs.Limits.{idleEntry}
+use Rattle.rules.specs.Threads.{State, Thread, Contending, amt, at}
+use Rattle.rules.specs.History.{Happening, completed, granted, Job, Finished, Account, completionsOf, grantsTo}
+use Rattle.promises.specs.Demand1.{Kept, RowKept}
+use Rattle.promises.specs.Demand3.{WithinDeadline, EndsInTime, OnTime, EachCompletion, EachTick}
+
+-- ---- "a thread's virtual time never passes its deadline"
+-- one thread of share 5, with W and E, at the moment t
+abbrev stateOf : ℕ → ℤ → ℤ → State
+stateOf t w e = record {
+  threads = record { app = 0; phase = Contending; share = 5; period = 4; jobs = 1; w = amt w; e = amt e } ∷ [];
+  count = 1;
+  had = 0;
+  q = 10;
+  clock = record { 0 = t };
+  completed = false;
+  closed = false;
+}
+
+-- W = 21, one above E = 20
+pub past-its-deadline : WithinDeadline (stateOf 3 (pos 21) (pos 20)) → ⊥
+past-its-deadline h = omega (arith, le-parts _ _ (h 0 (omega arith)))
+
+pub none-past-its-deadline : (s : State) (i : ℕ) → i < s .count → at (s .threads) i .e .0 ≺ at (s .threads) i .w .0 → WithinDeadline s → ⊥
+none-past-its-deadline s i l k h = omega (arith, le-parts _ _ (h i l))
+
+-- ---- "a granted tick ends no later than the deadline it was granted under"
+-- the tick 4 of a thread of share 5 ends at 5, under the deadline 4: 5 × (4 + 1) is past E = 20
+pub ends-late : EndsInTime (λ _. 5) (granted 0 4 (pos 20)) → ⊥
+ends-late h = omega (arith, le-parts _ _ h)
+
+pub none-ends-late : (u : ℕ → ℕ) (i k : ℕ) (e : ℤ) → e ≺ pos (u i * (k + 1)) → EndsInTime u (granted i k e) → ⊥
+none-ends-late u i k e l h = omega (arith, le-parts _ _ h)
+
+-- ---- "each job completes strictly earlier than one period of its thread after [its dedicated completion]"
+abbrev jobOf : ℕ → ℕ → Job
+jobOf arrival length = record { arrival = arrival; length = length }
+
+-- Q 10, u 2, P 5: the job that arrived at 3 and had a tick has the figure 2 × 3 + 10 × 1; it completes at 13, late by just one
+-- period, as 2 × 13 = 16 + 2 × 5
+pub late-by-a-period : OnTime 2 5 (record { job = jobOf 3 1; completion = 13; figure = 16 }) → ⊥
+late-by-a-period h = omega arith
+
+pub none-late-by-a-period : (u p : ℕ) (f : Finished) → f .figure + u * p ≤ u * f .completion → OnTime u p f → ⊥
+none-late-by-a-period u p f l h = omega arith
+
+-- ---- nothing is left out
+-- one completed job, at 13, and a job that waits and has had two ticks
+abbrev books : Account
+books = record {
+  waiting = jobOf 4 2 ∷ [];
+  previous = none;
+  finished = record { job = jobOf 3 1; completion = 13; figure = 16 } ∷ [];
+}
+
+-- a completion that is in no job; one at another moment; a job without its completion
+pub completion-missed : EachCompletion 0 books (completed 0 13 ∷ completed 0 14 ∷ []) → ⊥
+unfolding completionsOf
+completion-missed h = let n = ap length h in omega arith
+
+pub completion-moved : EachCompletion 0 books (completed 0 14 ∷ []) → ⊥
+unfolding completionsOf
+completion-moved h = let n = ap (λ (l : List ℕ). getD l 0 0) h in omega arith
+
+pub completion-made-up : EachCompletion 0 books (completed 1 13 ∷ []) → ⊥
+unfolding completionsOf
+completion-made-up h = let n = ap length h in omega arith
+
+-- four ticks of the thread where its jobs have three, and three ticks of which one is another thread's
+abbrev ticks : ℕ → List Happening
+ticks i = granted 0 10 (pos 40) ∷ granted 0 11 (pos 40) ∷ granted i 12 (pos 40) ∷ []
+
+pub tick-missed : EachTick 0 books (granted 0 9 (pos 40) ∷ ticks 0) → ⊥
+unfolding sumBy grantsTo
+tick-missed h = omega arith
+
+pub tick-made-up : EachTick 0 books (ticks 1) → ⊥
+unfolding sumBy grantsTo
+tick-made-up h = omega arith
+
+-- ---- "A refused call changes neither the schedule nor any lent row."
+-- a call refused 9 that moved the clock; one that took from W; a run refused 17 that wrote an entry, and one that cut the row
+nine : _≡_ {A = ℕ} 9 0 → ⊥
+nine e = omega arith
+
+seventeen : _≡_ {A = ℕ} 17 0 → ⊥
+seventeen e = omega arith
+
+pub clock-moved : Kept (stateOf 3 (pos 10) (pos 20)) 9 (stateOf 4 (pos 10) (pos 20)) → ⊥
+clock-moved k = let n = ap (λ (s : State). s .clock .0) (k nine) in omega arith
+
+pub amount-taken : Kept (stateOf 3 (pos 10) (pos 20)) 9 (stateOf 3 (pos 9) (pos 20)) → ⊥
+amount-taken k = let n : _≡_ {A = ℤ} (pos 9) (pos 10) = ap (λ (s : State). at (s .threads) 0 .w .0) (k nine) in let m : _≡_ {A = ℕ} 9 10 = cc in omega arith
+
+pub entry-written : RowKept (7 ∷ 7 ∷ []) 17 (idleEntry ∷ 7 ∷ []) → ⊥
+entry-written k = let n = ap (λ (l : List ℕ). getD l 0 0) (k seventeen) in omega arith
+
+pub row-cut : RowKept (7 ∷ 7 ∷ []) 17 (7 ∷ []) → ⊥
+row-cut k = let n = ap length (k seventeen) in omega arith
