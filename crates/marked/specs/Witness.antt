@@ -111,6 +111,27 @@ figures = example "figures"
     ∷ [])
     ∷ finished (ended (job 0 2) 2 4 ∷ ended (job 2 1) 3 6 ∷ ended (job 7 2) 9 11 ∷ []) ∷ [])
 
+-- "For the first job the arrival alone counts.": a first job that arrives at 3, with u 2 and Q 4, has the figure 2 × 3 + 4 × 1
+abbrev half : Table
+half = tableOf 4 1 (row 0 2 3 ∷ [])
+
+abbrev one-job : List Call
+one-job = step ∷ step ∷ step ∷ arrive 0 ∷ step ∷ complete 0 ∷ []
+
+abbrev first-figure : Example
+first-figure = example "first-figure"
+    (happened (history (begin half) one-job) ∷ finished (finishedOf half 2 0 one-job) ∷ [])
+    (happened (
+    idle-tick 0
+    ∷ idle-tick 1
+    ∷ idle-tick 2
+    ∷ became-active 0 3
+    ∷ arrived 0 3
+    ∷ granted 0 3 (pos 12)
+    ∷ completed 0 4
+    ∷ [])
+    ∷ finished (ended (job 3 1) 4 10 ∷ []) ∷ [])
+
 -- "every sequence of calls from a fresh start, refused ones among them": 8, 9, 10, 12, 13 and 17 leave state and history as they
 -- are without them
 abbrev accepted-calls : List Call
@@ -210,6 +231,7 @@ witnesses =
     ∷ late-by-all-but-one
     ∷ late-by-all-but-two
     ∷ figures
+    ∷ first-figure
     ∷ refused-among-them
     ∷ full-queue
     ∷ clock's-end
@@ -224,8 +246,9 @@ witnesses-hold =
     more {x = late-by-all-but-one} refl (
     more {x = late-by-all-but-two} refl (
     more {x = figures} refl (
+    more {x = first-figure} refl (
     more {x = refused-among-them} refl (
     more {x = full-queue} refl (
     more {x = clock's-end} refl (
     more {x = period-0} refl (
-    none)))))))))
+    none))))))))))
