@@ -17,6 +17,8 @@ use Rattle.rules.specs.Run.{Ran, unrun, ran, stateAfter, rowAfter, passed}
 use Rattle.rules.specs.Calls as calls
 use Rattle.rules.specs.Calls.{Call, apply, refusalOf}
 use Rattle.promises.specs.Demand1.{Kept, RowKept, Promised}
+use Rattle.promises.specs.Skipped as again
+use Rattle.promises.specs.Skipped.{skipped}
 use Rattle.promises.specs.Branches.{by-completion, by-arrival, by-drop, by-step, by-run}
 
 module _ (s : State) where
@@ -66,3 +68,7 @@ refused-kept (calls.run to row) s n = run-kept s to row .0 n
 
 pub demand-1 : Promised
 demand-1 s = record { schedule = λ c. refused-kept c s; row = λ to row. run-kept s to row .1 }
+
+-- .. and so what is claimed a second time
+pub demand-1-restated : again.Promised
+demand-1-restated = skipped demand-1

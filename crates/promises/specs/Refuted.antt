@@ -1,6 +1,6 @@
 -- Just outside of what demands 1 and 3 promise: each predicate of theirs refuses what misses it by one, on numbers and in general,
 -- so that none of them says less than its name.
-use mathlib.Core.Path.{_≡_, ap}
+use mathlib.Core.Path.{_≡_, refl, ap}
 use mathlib.Core.Bool.{false}
 use mathlib.Core.List.{List, [], _∷_}
 use mathlib.Core.Option.{none}
@@ -12,9 +12,11 @@ use Rattle.integers.specs.Parts.{_≺_, le-parts}
 use Rattle.lists.specs.Sum.{sumBy}
 use Rattle.rules.specs.Limits.{idleEntry}
 use Rattle.rules.specs.Threads.{State, Thread, Contending, amt, at}
+use Rattle.rules.specs.Step.{Grant, ready}
 use Rattle.rules.specs.History.{Happening, completed, granted, Job, Finished, Account, completionsOf, grantsTo}
 use Rattle.promises.specs.Demand1.{Kept, RowKept}
 use Rattle.promises.specs.Demand3.{WithinDeadline, EndsInTime, OnTime, EachCompletion, EachTick}
+use Rattle.promises.specs.Restated.{NotPast, EndsAs, Completed, doneBy, EachOnTime}
 
 -- ---- "a thread's virtual time never passes its deadline"
 -- one thread of share 5, with W and E, at the moment t
@@ -89,6 +91,24 @@ tick-missed h = omega arith
 pub tick-made-up : EachTick 0 books (ticks 1) → ⊥
 unfolding sumBy grantsTo
 tick-made-up h = omega arith
+
+-- ---- the same of the restatement: late by just one period, also behind a job that was on time
+abbrev doneOf : ℕ → ℕ → ℕ → Completed
+doneOf arrival length completion = record { arrival = arrival; length = length; completion = completion }
+
+pub again-late-by-a-period : EachOnTime 10 2 5 (doneOf 3 1 13 ∷ []) → ⊥
+unfolding doneBy
+again-late-by-a-period h = let k = h [] (doneOf 3 1 13) [] refl in omega arith
+
+pub second-late-by-a-period : EachOnTime 10 2 5 (doneOf 3 1 12 ∷ doneOf 4 1 18 ∷ []) → ⊥
+unfolding doneBy
+second-late-by-a-period h = let k = h (doneOf 3 1 12 ∷ []) (doneOf 4 1 18) [] refl in omega arith
+
+pub again-past-its-deadline : NotPast 0 (stateOf 3 (pos 21) (pos 20)) → ⊥
+again-past-its-deadline h = omega (arith, le-parts _ _ h)
+
+pub again-ends-late : (z : State) (u : ℕ → ℕ) (i : ℕ) → at (ready z .threads) i .e .0 ≺ pos (u i * (z .clock .0 + 1)) → EndsAs u z (Grant i) → ⊥
+again-ends-late z u i l h = omega (arith, le-parts _ _ h)
 
 -- ---- "A refused call changes neither the schedule nor any lent row."
 -- a call refused 9 that moved the clock; one that took from W; a run refused 17 that wrote an entry, and one that cut the row
