@@ -211,8 +211,10 @@ clock-at t = record { threads = []; count = 0; had = nobody; q = 2; clock = reco
 abbrev clock's-end : Example
 clock's-end = example "clock's-end"
     (outcome (stepped (clock-at 2147483646) .outcome) ∷ whole (stepped (clock-at 2147483646) .state)
-    ∷ outcome (stepped (clock-at 2147483647) .outcome) ∷ whole (stepped (clock-at 2147483647) .state) ∷ [])
-    (outcome Idle ∷ whole (clock-at 2147483647) ∷ outcome (steps.Refused 13) ∷ whole (clock-at 2147483647) ∷ [])
+    ∷ outcome (stepped (clock-at 2147483647) .outcome) ∷ whole (stepped (clock-at 2147483647) .state)
+    ∷ entries (refusals (clock-at 2147483646) (step ∷ step ∷ [])) ∷ [])
+    (outcome Idle ∷ whole (clock-at 2147483647) ∷ outcome (steps.Refused 13) ∷ whole (clock-at 2147483647)
+    ∷ entries (0 ∷ 13 ∷ []) ∷ [])
 
 -- "0 in a row stands for 100": admitted where u × 100 is at least Q, and the thread has that period
 abbrev usual : ℕ → Table

@@ -29,7 +29,7 @@ use Rattle.promises.specs.Accounts.{account-append, account-still, accou
 use Rattle.promises.specs.Unchanged.{SameTable, ready-same, calls-same}
 use Rattle.promises.specs.Demand3 as demand
 use Rattle.promises.specs.Demand3.{WithinDeadline, EndsInTime, OnTime}
-use Rattle.promises.specs.Restated.{Asked, completion-of, arrival-of, drop-of, tick, Turn, turn, ticks, ifAccepted, turnsOf, turns, NotPast, EndsAs, EndsWell, Waiting, Completed, Jobs, arrives, headOf, drops, longer, works, finishes, grantJobs, turnJobs, jobsAfter, doneBy, EachOnTime, momentOf, moments, grantOf, tickOf, grants, Restated, Promised}
+use Rattle.promises.specs.Restated.{Asked, completion-of, arrival-of, drop-of, tick, Turn, turn, ticks, ifAccepted, turnsOf, turns, NotPast, EndsAs, EndsWell, Waiting, Completed, Jobs, arrives, headOf, drops, longer, works, finishes, grantJobs, turnJobs, jobsAfter, doneBy, EachOnTime, momentOf, moments, grantOf, tickOf, grants, share, period, Restated, Promised}
 
 -- ---- the turns tell the history
 abbrev callOf : Asked → Call
@@ -400,15 +400,21 @@ module _ (promise : demand.Promised) (usual : ℕ) (t : Table) (admitted : table
     past-told = history-told from cs
 
     module _ (i : ℕ) (l : i < t .threads) where
+      abbrev u : ℕ
+      u = share usual t cs i
+
+      abbrev p : ℕ
+      p = period usual t cs i
+
       abbrev g : Account
-      g = demand.jobsOf usual t cs i
+      g = account (t .q) u i noJobs (demand.past usual t cs)
 
       jobs-are : asJobs g ≡ jobsAfter i (asJobs noJobs) ms
-      jobs-are = ap (λ (hs : List Happening). asJobs (account (t .q) (demand.shareOf usual t cs i) i noJobs hs)) past-told ∙ jobs-told (t .q) (demand.shareOf usual t cs i) i ms noJobs
+      jobs-are = ap (λ (hs : List Happening). asJobs (account (t .q) u i noJobs hs)) past-told ∙ jobs-told (t .q) u i ms noJobs
 
-      on-time : EachOnTime (t .q) (demand.shareOf usual t cs i) (demand.periodOf usual t cs i) (jobsAfter i (asJobs noJobs) ms .completed)
-      on-time = subst (λ (b : Jobs). EachOnTime (t .q) (demand.shareOf usual t cs i) (demand.periodOf usual t cs i) (b .completed)) jobs-are
-          (each-on-time (t .q) (demand.shareOf usual t cs i) (demand.periodOf usual t cs i) (g .finished) 0 (right-all (t .q) (demand.shareOf usual t cs i) i (demand.past usual t cs) noJobs (right-first (t .q) (demand.shareOf usual t cs i)) .figured) (promise usual t admitted cs .jobs i l))
+      on-time : EachOnTime (t .q) u p (jobsAfter i (asJobs noJobs) ms .completed)
+      on-time = subst (λ (b : Jobs). EachOnTime (t .q) u p (b .completed)) jobs-are
+          (each-on-time (t .q) u p (g .finished) 0 (right-all (t .q) u i (demand.past usual t cs) noJobs (right-first (t .q) u) .figured) (promise usual t admitted cs .jobs i l))
 
       abbrev momentsIn : Jobs → List ℕ
       momentsIn b = map (λ (j : Completed). j .completion) (b .completed)
@@ -445,8 +451,8 @@ module _ (promise : demand.Promised) (usual : ℕ) (t : Table) (admitted : table
           waiting-ticks [] = refl
           waiting-ticks (j ∷ js) = ap (λ (n : ℕ). j .length + n) (waiting-ticks js)
 
-    ticks-end : All (λ (m : Turn). EndsWell (demand.shareOf usual t cs) (m .state) (m .asked)) ms
-    ticks-end = all-end (demand.shareOf usual t cs) ms (subst (All (EndsInTime (demand.shareOf usual t cs))) past-told (promise usual t admitted cs .granted-ticks))
+    ticks-end : All (λ (m : Turn). EndsWell (share usual t cs) (m .state) (m .asked)) ms
+    ticks-end = all-end (share usual t cs) ms (subst (All (EndsInTime (share usual t cs))) past-told (promise usual t admitted cs .granted-ticks))
 
     restated : Restated usual t cs
     restated = record {

@@ -111,12 +111,15 @@ pub again-ends-late : (z : State) (u : ℕ → ℕ) (i : ℕ) → at (ready z .t
 again-ends-late z u i l h = omega (arith, le-parts _ _ h)
 
 -- ---- "A refused call changes neither the schedule nor any lent row."
--- a call refused 9 that moved the clock; one that took from W; a run refused 17 that wrote an entry, and one that cut the row
+-- a call refused 9 that moved the clock; one that took from W; a run refused 17 that wrote an entry, and one refused 12 that cut the row
 nine : _≡_ {A = ℕ} 9 0 → ⊥
 nine e = omega arith
 
 seventeen : _≡_ {A = ℕ} 17 0 → ⊥
 seventeen e = omega arith
+
+twelve : _≡_ {A = ℕ} 12 0 → ⊥
+twelve e = omega arith
 
 pub clock-moved : Kept (stateOf 3 (pos 10) (pos 20)) 9 (stateOf 4 (pos 10) (pos 20)) → ⊥
 clock-moved k = let n = ap (λ (s : State). s .clock .0) (k nine) in omega arith
@@ -127,5 +130,5 @@ amount-taken k = let n : _≡_ {A = ℤ} (pos 9) (pos 10) = ap (λ (s : State). 
 pub entry-written : RowKept (7 ∷ 7 ∷ []) 17 (idleEntry ∷ 7 ∷ []) → ⊥
 entry-written k = let n = ap (λ (l : List ℕ). getD l 0 0) (k seventeen) in omega arith
 
-pub row-cut : RowKept (7 ∷ 7 ∷ []) 17 (7 ∷ []) → ⊥
-row-cut k = let n = ap length (k seventeen) in omega arith
+pub row-cut : RowKept (7 ∷ 7 ∷ []) 12 (7 ∷ []) → ⊥
+row-cut k = let n = ap length (k twelve) in omega arith

@@ -46,6 +46,11 @@ pub elapsed-one-more : Even table (over 2 (pos 10) 7) → ⊥
 unfolding shareTo
 elapsed-one-more h = let n = ap up (h refl) in omega arith
 
+-- .. and of one that lost nothing: 5 × 7 is not 10 × 3
+pub uneven-without-loss : Even table (over 3 (pos 0) 7) → ⊥
+unfolding shareTo
+uneven-without-loss h = let n = ap up (h refl) in omega arith
+
 -- ---- "the sum over its active threads of W − u × t equals …": − 15 = 10 × 1 − 5 × 5 + 0 at 5, where thread 0 has W = 6 and thread 1,
 -- non-contending, has W = 4; thread 2 is another application's
 abbrev at-5 : ℤ → State
