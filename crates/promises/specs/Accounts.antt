@@ -1,14 +1,30 @@
--- An account, and what a history has of a thread, over a history in parts.
+-- A history in parts: its ticks, the account of a thread, and what it has of a thread.
 use mathlib.Core.Path.{_≡_, refl, sym, ap, ap₂, _∙_}
 use mathlib.Core.Bool.{Bool, true, false, cond}
-use mathlib.Core.List.{List, [], _∷_, _++_, append-assoc}
+use mathlib.Core.List.{List, [], _∷_, _++_, append-assoc, append-nil}
 use Prim.Native.Nat.{ℕ, zero, suc, _+_}
 use native.Mathlib.Omega.{arith}
 use lib.Dec.{eqb}
 use Rattle.lists.specs.All.{All, none, more}
 use Rattle.rules.specs.Threads.{State}
-use Rattle.rules.specs.History.{Happening, completed, arrived, dropped-to-head, granted, idle-tick, became-active, became-inactive, waking, retiring, leavings, Account, accountOf, account, completionsOf, grantsTo}
+use Rattle.rules.specs.Step.{stepped}
+use Rattle.rules.specs.Run.{stateAfter}
+use Rattle.rules.specs.History.{tickOf, ticksOf, Happening, completed, arrived, dropped-to-head, granted, idle-tick, became-active, became-inactive, waking, retiring, leavings, Account, accountOf, account, completionsOf, grantsTo}
 use Rattle.promises.specs.Happenings.{leavings-all, waking-all, retiring-all}
+
+-- ---- the first of k + 1 ticks, and then the rest
+pub steps-first : (k : ℕ) (s : State) → stateAfter (suc k) s ≡ stateAfter k (stepped s .state)
+unfolding stateAfter
+steps-first zero s = refl
+steps-first (suc k) s = ap (λ (z : State). stepped z .state) (steps-first k s)
+
+pub ticks-first : (k : ℕ) (s : State) → ticksOf (suc k) s ≡ tickOf s ++ ticksOf k (stepped s .state)
+unfolding ticksOf stateAfter
+ticks-first zero s = sym (append-nil (tickOf s))
+ticks-first (suc k) s =
+    ap (λ (hs : List Happening). hs ++ tickOf (stateAfter (suc k) s)) (ticks-first k s)
+    ∙ append-assoc (tickOf s) (ticksOf k (stepped s .state)) (tickOf (stateAfter (suc k) s))
+    ∙ ap (λ (z : State). tickOf s ++ (ticksOf k (stepped s .state) ++ tickOf z)) (steps-first k s)
 
 -- ---- the account goes on from where it was
 pub account-append : (q u i : ℕ) (g : Account) (hs ks : List Happening) → account q u i g (hs ++ ks) ≡ account q u i (account q u i g hs) ks

@@ -1,5 +1,5 @@
 -- Every call keeps the books: the account that is read off the history agrees with the thread, and its completed jobs are on time.
-use mathlib.Core.Path.{_≡_, refl, sym, ap, _∙_, subst}
+use mathlib.Core.Path.{_≡_, sym, ap, _∙_, subst}
 use mathlib.Core.Bool.{Bool, false, cond}
 use mathlib.Core.List.{List, [], _∷_, _++_}
 use Prim.Native.Nat.{ℕ, zero, suc, _*_, _-_, _<_}
@@ -7,7 +7,7 @@ use native.Mathlib.Omega.{arith}
 use borrow.Author.Tests.{eqb-true}
 use lib.Dec.{T, eqb}
 use lib.ListN.{length, take, set}
-use Rattle.lists.specs.All.{All, none, more}
+use Rattle.lists.specs.All.{All}
 use Rattle.lists.specs.Take.{at-put}
 use Rattle.rules.specs.Threads.{Thread, State, withRows, blank, at, contends}
 use Rattle.rules.specs.Table.{Answered}
@@ -20,7 +20,7 @@ use Rattle.rules.specs.Step.{Stepped, ready, stepped}
 use Rattle.rules.specs.Run.{Ran, stateAfter, ran}
 use Rattle.rules.specs.Calls as calls
 use Rattle.rules.specs.Calls.{Call, apply, after}
-use Rattle.rules.specs.History.{Happening, arrived as arrived-at, completed, granted, idle-tick, dropped-to-head, ifDone, retiring, waking, leavings, tickAs, tickOf, ticksOf, runAs, happens, history, Account, completeHead, withWaiting, account, accountOf}
+use Rattle.rules.specs.History.{arrived as arrived-at, completed, granted, idle-tick, dropped-to-head, ifDone, retiring, waking, leavings, tickAs, tickOf, ticksOf, runAs, happens, history, Account, completeHead, withWaiting, account, accountOf}
 use Rattle.promises.specs.Cases.{by-test, true-false}
 use Rattle.promises.specs.Branches.{by-completion, by-arrival, by-drop, by-step, by-run}
 use Rattle.promises.specs.Accounts.{account-append, account-still, account-after, leavings-unseen, waking-unseen, retiring-unseen}

@@ -23,6 +23,8 @@ pub mod Admission
 pub mod Ready
 pub mod Always
 pub mod Unchanged
+pub mod Turns
+pub mod Dedicated
 pub mod Derivation
 pub mod Sizes
 pub mod Grants

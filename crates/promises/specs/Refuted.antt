@@ -8,10 +8,10 @@ use Prim.Native.Nat.{ℕ, _+_, _*_, _≤_, _<_}
 use native.Mathlib.Omega.{arith}
 use lib.IntN.{ℤ, pos}
 use lib.ListN.{getD, length}
-use Rattle.integers.specs.Parts.{_≺_, le-parts}
+use Rattle.integers.specs.Parts.{up, _≺_, le-parts}
 use Rattle.lists.specs.Sum.{sumBy}
 use Rattle.rules.specs.Limits.{idleEntry}
-use Rattle.rules.specs.Threads.{State, Thread, Contending, amt, at}
+use Rattle.rules.specs.Threads.{State, Contending, amt, at}
 use Rattle.rules.specs.Step.{Grant, ready}
 use Rattle.rules.specs.History.{Happening, completed, granted, Job, Finished, Account, completionsOf, grantsTo}
 use Rattle.promises.specs.Demand1.{Kept, RowKept}
@@ -35,7 +35,8 @@ stateOf t w e = record {
 pub past-its-deadline : WithinDeadline (stateOf 3 (pos 21) (pos 20)) → ⊥
 past-its-deadline h = omega (arith, le-parts _ _ (h 0 (omega arith)))
 
-pub none-past-its-deadline : (s : State) (i : ℕ) → i < s .count → at (s .threads) i .e .0 ≺ at (s .threads) i .w .0 → WithinDeadline s → ⊥
+pub none-past-its-deadline : (s : State) (i : ℕ) → i < s .count → at (s .threads) i .e .0 ≺ at (s .threads) i .w .0
+    → WithinDeadline s → ⊥
 none-past-its-deadline s i l k h = omega (arith, le-parts _ _ (h i l))
 
 -- ---- "a granted tick ends no later than the deadline it was granted under"
@@ -107,7 +108,8 @@ second-late-by-a-period h = let k = h (doneOf 3 1 12 ∷ []) (doneOf 4 1 18) [] 
 pub again-past-its-deadline : NotPast 0 (stateOf 3 (pos 21) (pos 20)) → ⊥
 again-past-its-deadline h = omega (arith, le-parts _ _ h)
 
-pub again-ends-late : (z : State) (u : ℕ → ℕ) (i : ℕ) → at (ready z .threads) i .e .0 ≺ pos (u i * (z .clock .0 + 1)) → EndsAs u z (Grant i) → ⊥
+pub again-ends-late : (z : State) (u : ℕ → ℕ) (i : ℕ) → at (ready z .threads) i .e .0 ≺ pos (u i * (z .clock .0 + 1))
+    → EndsAs u z (Grant i) → ⊥
 again-ends-late z u i l h = omega (arith, le-parts _ _ h)
 
 -- ---- "A refused call changes neither the schedule nor any lent row."
@@ -125,7 +127,7 @@ pub clock-moved : Kept (stateOf 3 (pos 10) (pos 20)) 9 (stateOf 4 (pos 10) (pos 
 clock-moved k = let n = ap (λ (s : State). s .clock .0) (k nine) in omega arith
 
 pub amount-taken : Kept (stateOf 3 (pos 10) (pos 20)) 9 (stateOf 3 (pos 9) (pos 20)) → ⊥
-amount-taken k = let n : _≡_ {A = ℤ} (pos 9) (pos 10) = ap (λ (s : State). at (s .threads) 0 .w .0) (k nine) in let m : _≡_ {A = ℕ} 9 10 = cc in omega arith
+amount-taken k = let n = ap (λ (s : State). up (at (s .threads) 0 .w .0)) (k nine) in omega arith
 
 pub entry-written : RowKept (7 ∷ 7 ∷ []) 17 (idleEntry ∷ 7 ∷ []) → ⊥
 entry-written k = let n = ap (λ (l : List ℕ). getD l 0 0) (k seventeen) in omega arith

@@ -62,6 +62,10 @@ turns s (c ∷ cs) = turnsOf s c ++ turns (apply s c) cs
 abbrev pub NotPast : ℕ → State → Type 0
 NotPast i s = at (s .threads) i .w .0 ≤ℤ at (s .threads) i .e .0
 
+-- in the state in which something is asked, and as it is at a choice there
+abbrev pub NeverPast : ℕ → Turn → Type 0
+NeverPast i m = NotPast i (m .state) × NotPast i (ready (m .state))
+
 -- ---- "a granted tick ends no later than the deadline it was granted under": by what the tick in the state s answers
 abbrev pub EndsAs : (ℕ → ℕ) → State → Outcome → Type 0
 EndsAs u s (Grant i) = pos (u i * (s .clock .0 + 1)) ≤ℤ at (ready s .threads) i .e .0
@@ -90,6 +94,10 @@ pub record Jobs : Type 0 where
   pub waiting : List Waiting
   pub completed : List Completed
 
+-- the ticks in all of them
+abbrev pub lengths : Jobs → ℕ
+lengths b = sumBy (λ (j : Completed). j .length) (b .completed) + sumBy (λ (j : Waiting). j .length) (b .waiting)
+
 abbrev pub nothing : Jobs
 nothing = record { waiting = []; completed = [] }
 
@@ -113,7 +121,10 @@ works b = record { waiting = longer (b .waiting); completed = b .completed }
 
 abbrev pub finishes : ℕ → List Waiting → Jobs → Jobs
 finishes m [] b = b
-finishes m (j ∷ js) b = record { waiting = js; completed = b .completed ++ (record { arrival = j .arrival; length = j .length; completion = m } ∷ []) }
+finishes m (j ∷ js) b = record {
+  waiting = js;
+  completed = b .completed ++ (record { arrival = j .arrival; length = j .length; completion = m } ∷ []);
+}
 
 -- what a turn in the state s is to the jobs of thread i
 abbrev pub grantJobs : ℕ → Outcome → Jobs → Jobs
@@ -185,12 +196,12 @@ module _ (usual : ℕ) (t : Table) (cs : List Call) where
   jobsOf i = jobsAfter i nothing all
 
   pub record Restated : Type 0 where
-    -- in every state on the way and at the choice in it, and in the last
-    pub virtual-time : (i : ℕ) → i < t .threads → All (λ (m : Turn). NotPast i (m .state) × NotPast i (ready (m .state))) all × NotPast i (after (start usual t) cs)
+    -- at every turn, and after the last
+    pub virtual-time : (i : ℕ) → i < t .threads → All (NeverPast i) all × NotPast i (after (start usual t) cs)
     pub granted-ticks : All (λ (m : Turn). EndsWell share (m .state) (m .asked)) all
     pub jobs : (i : ℕ) → i < t .threads → EachOnTime (t .q) (share i) (period i) (jobsOf i .completed)
     pub all-jobs : (i : ℕ) → i < t .threads → map (λ (j : Completed). j .completion) (jobsOf i .completed) ≡ moments i all
-    pub all-ticks : (i : ℕ) → i < t .threads → sumBy (λ (j : Completed). j .length) (jobsOf i .completed) + sumBy (λ (j : Waiting). j .length) (jobsOf i .waiting) ≡ grants i all
+    pub all-ticks : (i : ℕ) → i < t .threads → lengths (jobsOf i) ≡ grants i all
 
 -- "For every admitted table and every sequence of calls from a fresh start, refused ones among them"
 abbrev pub Promised : Type 0

@@ -1,7 +1,7 @@
 -- Demand 1 of refused calls a second time, stated apart from Demand1.antt and derived from its `Promised` alone, whatever proves
 -- that: refused calls can be left out of any sequence, and no entry of a row that was lent to one has changed.
-use mathlib.Core.Path.{_≡_, refl, sym, ap, _∙_}
-use mathlib.Core.Bool.{true, false, cond}
+use mathlib.Core.Path.{_≡_, refl, ap, _∙_}
+use mathlib.Core.Bool.{cond}
 use mathlib.Core.List.{List, [], _∷_}
 use Prim.Native.Nat.{ℕ, suc}
 use native.Mathlib.Omega.{arith}

@@ -2,7 +2,7 @@
 use mathlib.Core.Path.{_≡_, refl, sym, ap, ap₂, _∙_, subst}
 use mathlib.Core.Bool.{Bool, true, false, cond}
 use mathlib.Core.List.{List, [], _∷_, _++_}
-use Prim.Native.Nat.{ℕ, zero, suc, _+_, _*_, _-_, _<_}
+use Prim.Native.Nat.{ℕ, _+_, _*_, _-_, _<_}
 use native.Mathlib.Omega.{arith}
 use borrow.Author.Tests.{eq-eqb, ne-eqb, eqb-true}
 use lib.Dec.{eqb}
@@ -16,12 +16,11 @@ use Rattle.rules.specs.Threads.{Thread, State, scaled, activeIn}
 use Rattle.rules.specs.Table.{Table, Done, tableAnswer}
 use Rattle.rules.specs.Leaving.{gone}
 use Rattle.rules.specs.Calls.{Call}
-use Rattle.rules.specs.History.{Happening, leavings}
-use Rattle.rules.specs.Stretches.{Activity, Over, lostIn, grantedIn, elapsed, appOf, shareOf, aheadIn, total, aheadOf, balance}
-use Rattle.promises.specs.Cases.{by-test}
+use Rattle.rules.specs.History.{leavings}
+use Rattle.rules.specs.Stretches.{Activity, Over, lostIn, grantedIn, elapsed, appOf, shareOf, aheadIn, total, aheadOf}
 use Rattle.stretches.specs.Item8 as item
 use Rattle.stretches.specs.Item8.{one, activesOf, Even, grantedBy, lostBy, grantedNow, lostNow}
-use Rattle.stretches.specs.Whole.{lasted, Uncut, now, past, overs, holding, Settles, Whole, Promised}
+use Rattle.stretches.specs.Whole.{lasted, Uncut, now, past, overs, holding, Settles, Promised}
 
 -- ---- integers: sums of equations, and an equation with a difference
 sum-two : (u q d l g h : ℕ) (x y : ℤ) → pos (u * d) ≡ pos (q * g) +ℤ x → pos (u * l) ≡ pos (q * h) +ℤ y → pos (u * (d + l)) ≡ pos (q * (g + h)) +ℤ (x +ℤ y)

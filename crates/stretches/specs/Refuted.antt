@@ -1,15 +1,15 @@
 -- Just outside of what Item 8 says: each of its predicates refuses what misses it by one, on numbers and to either side, so that
 -- none of them says less than its name.
 use mathlib.Core.Path.{refl, ap}
-use mathlib.Core.Bool.{Bool, false}
+use mathlib.Core.Bool.{false}
 use mathlib.Core.List.{List, [], _∷_}
-use Prim.Native.Nat.{ℕ, _+_, _<_}
+use Prim.Native.Nat.{ℕ}
 use native.Mathlib.Omega.{arith}
 use lib.IntN.{ℤ, pos}
 use Rattle.integers.specs.Parts.{up, dn}
 use Rattle.lists.specs.Sum.{sumBy}
 use Rattle.rules.specs.Limits.{usualPeriod}
-use Rattle.rules.specs.Threads.{Thread, State, Contending, NonContending, amt}
+use Rattle.rules.specs.Threads.{State, Contending, NonContending, amt}
 use Rattle.rules.specs.Table.{Row, Table}
 use Rattle.rules.specs.History.{Happening, granted, became-inactive, unreceived}
 use Rattle.rules.specs.Stretches.{Activity, Over, lostIn, grantedIn, shareTo, total, appOf}
@@ -24,7 +24,12 @@ table = record { q = 10; threads = 3; rows = row 0 3 ∷ row 0 2 ∷ row 1 5 ∷
 
 -- ---- "share times elapsed therefore equals Q times granted plus lost": 5 × 6 = 10 × 2 + 10 of the listing's stretch
 abbrev over : ℕ → ℤ → ℕ → Over
-over ticks lost to = record { application = 0; stretch = record { since = record { 0 = 0 }; granted = ticks; lost = amt lost }; until = to; idle = false }
+over ticks lost to = record {
+  application = 0;
+  stretch = record { since = record { 0 = 0 }; granted = ticks; lost = amt lost };
+  until = to;
+  idle = false;
+}
 
 pub even : Even table (over 2 (pos 10) 6)
 unfolding shareTo

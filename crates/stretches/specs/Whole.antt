@@ -15,7 +15,7 @@ use Rattle.rules.specs.Table.{Table, Done, tableAnswer, start}
 use Rattle.rules.specs.Leaving.{gone}
 use Rattle.rules.specs.Calls.{Call, after}
 use Rattle.rules.specs.History.{Happening, leavings, history}
-use Rattle.rules.specs.Stretches.{Stretch, Activity, Over, allQuiet, activityAt, activities, stretches, lostIn, grantedIn, appOf, shareOf, aheadOf}
+use Rattle.rules.specs.Stretches.{Activity, Over, allQuiet, activityAt, activities, stretches, lostIn, grantedIn, appOf, shareOf, aheadOf}
 use Rattle.stretches.specs.Item8.{activesOf}
 
 -- the ticks that the stretches of the application a lasted that are over
@@ -45,9 +45,13 @@ module _ (usual : ℕ) (t : Table) (cs : List Call) where
   abbrev pub Settles : ℕ → ℕ → State → Type 0
   Settles a n s = pos (shareOf a t * (lasted a overs + n)) +ℤ aheadOf a s ≡ pos (t .q * grantedIn (appOf t) a past) +ℤ lostIn (appOf t) a past
 
+  -- how long the stretch of a that holds has lasted
+  abbrev pub lasting : ℕ → ℕ
+  lasting a = now .clock .0 - holding a past .stretch .since .0
+
   pub record Whole : Type 0 where
     pub at-rest : (a : ℕ) → a < apps → Uncut a overs → activesOf a now ≡ 0 → Settles a 0 now
-    pub at-work : (a : ℕ) → a < apps → Uncut a overs → 0 < activesOf a now → Settles a (now .clock .0 - holding a past .stretch .since .0) now
+    pub at-work : (a : ℕ) → a < apps → Uncut a overs → 0 < activesOf a now → Settles a (lasting a) now
     -- and after leaving, of the stretch that holds then
     pub having-left : (a : ℕ) → a < apps → 0 < holding a (past ++ leavings now) .active
         → pos (shareOf a t * (gone now .clock .0 - holding a (past ++ leavings now) .stretch .since .0)) +ℤ aheadOf a (gone now)
