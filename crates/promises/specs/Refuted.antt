@@ -1,13 +1,15 @@
--- Just outside of what demands 1 and 3 promise: each predicate of theirs refuses what misses it by one, on numbers and in general,
--- so that none of them says less than its name.
+-- Just outside of what demands 1 and 3 promise: each predicate of theirs holds of what just meets it and refuses what misses it by
+-- one, on numbers and in general, so that none of them says less than its name.
 use mathlib.Core.Path.{_≡_, refl, ap}
 use mathlib.Core.Bool.{false}
 use mathlib.Core.List.{List, [], _∷_}
 use mathlib.Core.Option.{none}
-use Prim.Native.Nat.{ℕ, _+_, _*_, _≤_, _<_}
+use Prim.Native.Nat.{ℕ, zero, suc, _+_, _*_, _≤_, _<_}
+use native.Mathlib.Nat.{not-suc-le-zero, le-of-suc-le-suc}
 use native.Mathlib.Omega.{arith}
 use lib.IntN.{ℤ, pos}
 use lib.ListN.{getD, length}
+use lib.Signed.{leZ-yes}
 use Rattle.integers.specs.Parts.{up, _≺_, le-parts}
 use Rattle.lists.specs.Sum.{sumBy}
 use Rattle.rules.specs.Limits.{idleEntry}
@@ -31,7 +33,11 @@ stateOf t w e = record {
   closed = false;
 }
 
--- W = 21, one above E = 20
+-- W = E = 20, and W one above it
+pub at-its-deadline : WithinDeadline (stateOf 3 (pos 20) (pos 20))
+at-its-deadline zero h = leZ-yes tt
+at-its-deadline (suc i) h = absurd (not-suc-le-zero (le-of-suc-le-suc h))
+
 pub past-its-deadline : WithinDeadline (stateOf 3 (pos 21) (pos 20)) → ⊥
 past-its-deadline h = omega (arith, le-parts _ _ (h 0 (omega arith)))
 
@@ -40,7 +46,10 @@ pub none-past-its-deadline : (s : State) (i : ℕ) → i < s .count → at (s .t
 none-past-its-deadline s i l k h = omega (arith, le-parts _ _ (h i l))
 
 -- ---- "a granted tick ends no later than the deadline it was granted under"
--- the tick 4 of a thread of share 5 ends at 5, under the deadline 4: 5 × (4 + 1) is past E = 20
+-- the tick 3 of a thread of share 5 ends at 4, under the deadline 4: 5 × (3 + 1) = E = 20; the tick 4 ends past it
+pub ends-at-its-deadline : EndsInTime (λ _. 5) (granted 0 3 (pos 20))
+ends-at-its-deadline = leZ-yes tt
+
 pub ends-late : EndsInTime (λ _. 5) (granted 0 4 (pos 20)) → ⊥
 ends-late h = omega (arith, le-parts _ _ h)
 
@@ -51,8 +60,11 @@ none-ends-late u i k e l h = omega (arith, le-parts _ _ h)
 abbrev jobOf : ℕ → ℕ → Job
 jobOf arrival length = record { arrival = arrival; length = length }
 
--- Q 10, u 2, P 5: the job that arrived at 3 and had a tick has the figure 2 × 3 + 10 × 1; it completes at 13, late by just one
--- period, as 2 × 13 = 16 + 2 × 5
+-- Q 10, u 2, P 5: the job that arrived at 3 and had a tick has the figure 2 × 3 + 10 × 1; at 12 it completes in time, and at 13
+-- late by just one period, as 2 × 13 = 16 + 2 × 5
+pub on-time : OnTime 2 5 (record { job = jobOf 3 1; completion = 12; figure = 16 })
+on-time = omega arith
+
 pub late-by-a-period : OnTime 2 5 (record { job = jobOf 3 1; completion = 13; figure = 16 }) → ⊥
 late-by-a-period h = omega arith
 
@@ -60,13 +72,17 @@ pub none-late-by-a-period : (u p : ℕ) (f : Finished) → f .figure + u * p ≤
 none-late-by-a-period u p f l h = omega arith
 
 -- ---- nothing is left out
--- one completed job, at 13, and a job that waits and has had two ticks
+-- one completed job, at 13, and a job that waits and has had two ticks; with it just that history
 abbrev books : Account
 books = record {
   waiting = jobOf 4 2 ∷ [];
   previous = none;
   finished = record { job = jobOf 3 1; completion = 13; figure = 16 } ∷ [];
 }
+
+pub each-completion : EachCompletion 0 books (completed 0 13 ∷ completed 1 14 ∷ [])
+unfolding completionsOf
+each-completion = refl
 
 -- a completion that is in no job; one at another moment; a job without its completion
 pub completion-missed : EachCompletion 0 books (completed 0 13 ∷ completed 0 14 ∷ []) → ⊥
@@ -84,6 +100,10 @@ completion-made-up h = let n = ap length h in omega arith
 -- four ticks of the thread where its jobs have three, and three ticks of which one is another thread's
 abbrev ticks : ℕ → List Happening
 ticks i = granted 0 10 (pos 40) ∷ granted 0 11 (pos 40) ∷ granted i 12 (pos 40) ∷ []
+
+pub each-tick : EachTick 0 books (ticks 0)
+unfolding sumBy grantsTo
+each-tick = refl
 
 pub tick-missed : EachTick 0 books (granted 0 9 (pos 40) ∷ ticks 0) → ⊥
 unfolding sumBy grantsTo
