@@ -111,6 +111,27 @@ figures = example "figures"
     ∷ [])
     ∷ finished (ended (job 0 2) 2 4 ∷ ended (job 2 1) 3 6 ∷ ended (job 7 2) 9 11 ∷ []) ∷ [])
 
+-- "For the first job the arrival alone counts.": a first job that arrives at 3, with u 2 and Q 4, has the figure 2 × 3 + 4 × 1
+abbrev half : Table
+half = tableOf 4 1 (row 0 2 3 ∷ [])
+
+abbrev one-job : List Call
+one-job = step ∷ step ∷ step ∷ arrive 0 ∷ step ∷ complete 0 ∷ []
+
+abbrev first-figure : Example
+first-figure = example "first-figure"
+    (happened (history (begin half) one-job) ∷ finished (finishedOf half 2 0 one-job) ∷ [])
+    (happened (
+    idle-tick 0
+    ∷ idle-tick 1
+    ∷ idle-tick 2
+    ∷ became-active 0 3
+    ∷ arrived 0 3
+    ∷ granted 0 3 (pos 12)
+    ∷ completed 0 4
+    ∷ [])
+    ∷ finished (ended (job 3 1) 4 10 ∷ []) ∷ [])
+
 -- "every sequence of calls from a fresh start, refused ones among them": 8, 9, 10, 12, 13 and 17 leave state and history as they
 -- are without them
 abbrev accepted-calls : List Call
@@ -190,8 +211,10 @@ clock-at t = record { threads = []; count = 0; had = nobody; q = 2; clock = reco
 abbrev clock's-end : Example
 clock's-end = example "clock's-end"
     (outcome (stepped (clock-at 2147483646) .outcome) ∷ whole (stepped (clock-at 2147483646) .state)
-    ∷ outcome (stepped (clock-at 2147483647) .outcome) ∷ whole (stepped (clock-at 2147483647) .state) ∷ [])
-    (outcome Idle ∷ whole (clock-at 2147483647) ∷ outcome (steps.Refused 13) ∷ whole (clock-at 2147483647) ∷ [])
+    ∷ outcome (stepped (clock-at 2147483647) .outcome) ∷ whole (stepped (clock-at 2147483647) .state)
+    ∷ entries (refusals (clock-at 2147483646) (step ∷ step ∷ [])) ∷ [])
+    (outcome Idle ∷ whole (clock-at 2147483647) ∷ outcome (steps.Refused 13) ∷ whole (clock-at 2147483647)
+    ∷ entries (0 ∷ 13 ∷ []) ∷ [])
 
 -- "0 in a row stands for 100": admitted where u × 100 is at least Q, and the thread has that period
 abbrev usual : ℕ → Table
@@ -210,6 +233,7 @@ witnesses =
     ∷ late-by-all-but-one
     ∷ late-by-all-but-two
     ∷ figures
+    ∷ first-figure
     ∷ refused-among-them
     ∷ full-queue
     ∷ clock's-end
@@ -224,8 +248,9 @@ witnesses-hold =
     more {x = late-by-all-but-one} refl (
     more {x = late-by-all-but-two} refl (
     more {x = figures} refl (
+    more {x = first-figure} refl (
     more {x = refused-among-them} refl (
     more {x = full-queue} refl (
     more {x = clock's-end} refl (
     more {x = period-0} refl (
-    none)))))))))
+    none))))))))))

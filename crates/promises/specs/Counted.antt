@@ -33,7 +33,8 @@ use Rattle.promises.specs.Ready.{ready-ready, chosen-leads}
 use Rattle.promises.specs.Always.{steps-good, apply-good}
 use Rattle.promises.specs.Books.{Books, ready-standing}
 use Rattle.promises.specs.Happenings.{leavings-all, waking-all, retiring-all}
-use Rattle.promises.specs.Ledger.{account-still, leavings-unseen, ticks-books, call-books}
+use Rattle.promises.specs.Accounts.{account-still, leavings-unseen, completions-cons, grants-cons}
+use Rattle.promises.specs.Ledger.{ticks-books, call-books}
 
 -- ---- of an account alone
 -- the moments of its completed jobs, and the ticks in all its jobs
@@ -61,31 +62,6 @@ Fed i g (became-inactive k t z f) = Unit {0}
 abbrev AllFed : ℕ → ℕ → ℕ → Account → List Happening → Type 0
 AllFed q u i g [] = Unit {0}
 AllFed q u i g (h ∷ hs) = Fed i g h × AllFed q u i (accountOf q u i g h) hs
-
--- a history, its first thing apart
-completions-cons : (i : ℕ) (h : Happening) (hs : List Happening) → completionsOf i (h ∷ hs) ≡ completionsOf i (h ∷ []) ++ completionsOf i hs
-unfolding completionsOf
-completions-cons i (completed k t) hs = go (eqb k i)
-  where
-    go : (b : Bool) → cond b (t ∷ completionsOf i hs) (completionsOf i hs) ≡ cond b (t ∷ []) [] ++ completionsOf i hs
-    go true = refl
-    go false = refl
-completions-cons i (arrived k t) hs = refl
-completions-cons i (dropped-to-head k t) hs = refl
-completions-cons i (granted k t e) hs = refl
-completions-cons i (idle-tick t) hs = refl
-completions-cons i (became-active k t) hs = refl
-completions-cons i (became-inactive k t z f) hs = refl
-
-grants-cons : (i : ℕ) (h : Happening) (hs : List Happening) → grantsTo i (h ∷ hs) ≡ grantsTo i (h ∷ []) + grantsTo i hs
-unfolding grantsTo
-grants-cons i (completed k t) hs = omega arith
-grants-cons i (arrived k t) hs = omega arith
-grants-cons i (dropped-to-head k t) hs = omega arith
-grants-cons i (granted k t e) hs = omega arith
-grants-cons i (idle-tick t) hs = omega arith
-grants-cons i (became-active k t) hs = omega arith
-grants-cons i (became-inactive k t z f) hs = omega arith
 
 module _ (q u i : ℕ) (g : Account) where
   -- one thing more

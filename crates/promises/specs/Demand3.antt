@@ -39,6 +39,14 @@ EndsInTime u (became-inactive i m z f) = Unit {0}
 abbrev pub OnTime : ℕ → ℕ → Finished → Type 0
 OnTime u p f = u * f .completion < f .figure + u * p
 
+-- nothing is left out of the account g of thread i, whose history is hs: each accepted completion is one of its completed jobs
+abbrev pub EachCompletion : ℕ → Account → List Happening → Type 0
+EachCompletion i g hs = map (λ (f : Finished). f .completion) (g .finished) ≡ completionsOf i hs
+
+-- .. and each granted tick is in the length of one of its jobs
+abbrev pub EachTick : ℕ → Account → List Happening → Type 0
+EachTick i g hs = sumBy (λ (f : Finished). f .job .length) (g .finished) + sumBy (λ (j : Job). j .length) (g .waiting) ≡ grantsTo i hs
+
 -- a table and a sequence of calls from its fresh start
 module _ (usual : ℕ) (t : Table) (cs : List Call) where
   abbrev pub now : State
@@ -62,9 +70,8 @@ module _ (usual : ℕ) (t : Table) (cs : List Call) where
     pub virtual-time : WithinDeadline now × WithinDeadline (ready now)
     pub granted-ticks : All (EndsInTime shareOf) past
     pub jobs : (i : ℕ) → i < t .threads → All (OnTime (shareOf i) (periodOf i)) (jobsOf i .finished)
-    -- nothing is left out: each accepted completion is one of these jobs, and each granted tick is in the length of a job
-    pub all-jobs : (i : ℕ) → i < t .threads → map (λ (f : Finished). f .completion) (jobsOf i .finished) ≡ completionsOf i past
-    pub all-ticks : (i : ℕ) → i < t .threads → sumBy (λ (f : Finished). f .job .length) (jobsOf i .finished) + sumBy (λ (j : Job). j .length) (jobsOf i .waiting) ≡ grantsTo i past
+    pub all-jobs : (i : ℕ) → i < t .threads → EachCompletion i (jobsOf i) past
+    pub all-ticks : (i : ℕ) → i < t .threads → EachTick i (jobsOf i) past
 
 -- "For every admitted table and every sequence of calls from a fresh start, refused ones among them", whatever 0 stands for
 abbrev pub Promised : Type 0

@@ -1,5 +1,5 @@
 -- Every call keeps the books: the account that is read off the history agrees with the thread, and its completed jobs are on time.
-use mathlib.Core.Path.{_≡_, refl, sym, ap, _∙_, subst}
+use mathlib.Core.Path.{_≡_, sym, ap, _∙_, subst}
 use mathlib.Core.Bool.{Bool, false, cond}
 use mathlib.Core.List.{List, [], _∷_, _++_}
 use Prim.Native.Nat.{ℕ, zero, suc, _*_, _-_, _<_}
@@ -7,7 +7,7 @@ use native.Mathlib.Omega.{arith}
 use borrow.Author.Tests.{eqb-true}
 use lib.Dec.{T, eqb}
 use lib.ListN.{length, take, set}
-use Rattle.lists.specs.All.{All, none, more}
+use Rattle.lists.specs.All.{All}
 use Rattle.lists.specs.Take.{at-put}
 use Rattle.rules.specs.Threads.{Thread, State, withRows, blank, at, contends}
 use Rattle.rules.specs.Table.{Answered}
@@ -20,10 +20,10 @@ use Rattle.rules.specs.Step.{Stepped, ready, stepped}
 use Rattle.rules.specs.Run.{Ran, stateAfter, ran}
 use Rattle.rules.specs.Calls as calls
 use Rattle.rules.specs.Calls.{Call, apply, after}
-use Rattle.rules.specs.History.{Happening, arrived as arrived-at, completed, granted, idle-tick, dropped-to-head, ifDone, retiring, waking, leavings, tickAs, tickOf, ticksOf, runAs, happens, history, Account, completeHead, withWaiting, account, accountOf}
+use Rattle.rules.specs.History.{arrived as arrived-at, completed, granted, idle-tick, dropped-to-head, ifDone, retiring, waking, leavings, tickAs, tickOf, ticksOf, runAs, happens, history, Account, completeHead, withWaiting, account, accountOf}
 use Rattle.promises.specs.Cases.{by-test, true-false}
 use Rattle.promises.specs.Branches.{by-completion, by-arrival, by-drop, by-step, by-run}
-use Rattle.promises.specs.Happenings.{leavings-all, waking-all, retiring-all}
+use Rattle.promises.specs.Accounts.{account-append, account-still, account-after, leavings-unseen, waking-unseen, retiring-unseen}
 use Rattle.promises.specs.Good.{Fine, Good}
 use Rattle.promises.specs.Keep.{inside, fine-at}
 use Rattle.promises.specs.Ready.{gone-beside, ready-ready, chosen-leads, none-contends}
@@ -31,34 +31,6 @@ use Rattle.promises.specs.Always.{steps-good, apply-good}
 use Rattle.promises.specs.Books.{Books, Standing, gone-standing, ready-standing, same-finished, idle-books, grant-books, arrived-books, completing-agrees}
 use Rattle.promises.specs.Demand3.{OnTime}
 use Rattle.promises.specs.Jobs.{Agrees, Close, Completes, drop-agrees, drop-close, completes}
-
--- ---- the account goes on from where it was
-account-append : (q u i : ℕ) (g : Account) (hs ks : List Happening) → account q u i g (hs ++ ks) ≡ account q u i (account q u i g hs) ks
-unfolding account
-account-append q u i g [] ks = refl
-account-append q u i g (h ∷ hs) ks = account-append q u i (accountOf q u i g h) hs ks
-
--- .. and does not see who becomes active or inactive
-module _ (q u i : ℕ) where
-  abbrev pub Unseen : Happening → Type 0
-  Unseen h = (g : Account) → accountOf q u i g h ≡ g
-
-  pub account-still : {hs : List Happening} → All Unseen hs → (g : Account) → account q u i g hs ≡ g
-  unfolding account
-  account-still none g = refl
-  account-still (more {xs = hs} p a) g = ap (λ k. account q u i k hs) (p g) ∙ account-still a g
-
-  account-after : {hs : List Happening} → All Unseen hs → (g : Account) (ks : List Happening) → account q u i g (hs ++ ks) ≡ account q u i g ks
-  account-after {hs} a g ks = account-append q u i g hs ks ∙ ap (λ k. account q u i k ks) (account-still a g)
-
-  pub leavings-unseen : (s : State) → All Unseen (leavings s)
-  leavings-unseen s = leavings-all Unseen (λ _ _ _ _ _. refl) s
-
-  pub waking-unseen : (s : State) (j : ℕ) → All Unseen (waking s j)
-  waking-unseen s j = waking-all Unseen (λ _ _ _. refl) s j
-
-  pub retiring-unseen : (s : State) (j : ℕ) → All Unseen (retiring s j)
-  retiring-unseen s j = retiring-all Unseen (λ _ _ _ _ _. refl) s j
 
 -- ---- the calls, but for a run
 module _ {q u p i : ℕ} {g : Account} {s : State} (good : Good s) (b : Books q u p i g s) where

@@ -1,8 +1,14 @@
+pub mod Demand1
 pub mod Demand3
+pub mod Restated
+pub mod Skipped
 pub mod Refused
+pub mod Refuted
+pub mod Witness
 pub mod Cases
 pub mod Branches
 pub mod Happenings
+pub mod Accounts
 pub mod Deadlines
 pub mod Good
 pub mod Shares
@@ -17,6 +23,9 @@ pub mod Admission
 pub mod Ready
 pub mod Always
 pub mod Unchanged
+pub mod Turns
+pub mod Dedicated
+pub mod Derivation
 pub mod Sizes
 pub mod Grants
 pub mod Jobs

@@ -20,6 +20,8 @@ use Rattle.promises.specs.Books.{Books, first-books}
 use Rattle.promises.specs.Ledger.{after-books}
 use Rattle.promises.specs.Counted.{moments-counted, ticks-counted, history-fed}
 use Rattle.promises.specs.Demand3.{WithinDeadline, Demand3, shareOf, past, Promised}
+use Rattle.promises.specs.Restated as again
+use Rattle.promises.specs.Derivation.{follows}
 
 within : {s : State} → Steady s → WithinDeadline s
 within g i h = parts-le _ _ (fine-at (g .rows) i h .ordered)
@@ -57,3 +59,7 @@ module _ (usual : ℕ) (t : Table) (e : tableAnswer usual t ≡ Done) where
 
 pub demand-3 : Promised
 demand-3 usual t e cs = holds usual t e cs
+
+-- .. and so what is claimed a second time
+pub demand-3-restated : again.Promised
+demand-3-restated = follows demand-3

@@ -1,4 +1,4 @@
--- Demand 1: "A refused call changes neither the schedule nor any lent row."
+-- Demand 1 holds of refused calls: "A refused call changes neither the schedule nor any lent row."
 use mathlib.Core.Path.{_≡_, refl}
 use mathlib.Core.Bool.{Bool, true, false, cond}
 use mathlib.Core.List.{List, _++_}
@@ -16,33 +16,33 @@ use Rattle.rules.specs.Step.{Stepped, stepNumber, stepped}
 use Rattle.rules.specs.Run.{Ran, unrun, ran, stateAfter, rowAfter, passed}
 use Rattle.rules.specs.Calls as calls
 use Rattle.rules.specs.Calls.{Call, apply, refusalOf}
+use Rattle.promises.specs.Demand1.{Kept, RowKept, Promised}
+use Rattle.promises.specs.Skipped as again
+use Rattle.promises.specs.Skipped.{skipped}
 use Rattle.promises.specs.Branches.{by-completion, by-arrival, by-drop, by-step, by-run}
 
 module _ (s : State) where
-  abbrev Kept : Answered → Type 0
-  Kept r = (numberOf (r .answer) ≡ 0 → ⊥) → r .state ≡ s
+  abbrev KeptBy : Answered → Type 0
+  KeptBy r = Kept s (numberOf (r .answer)) (r .state)
 
-  completion-kept : (i : ℕ) → Kept (completion s i)
-  completion-kept i = by-completion s Kept i (λ _ _. refl) (λ _ _ _ _ n. absurd (n refl))
+  completion-kept : (i : ℕ) → KeptBy (completion s i)
+  completion-kept i = by-completion s KeptBy i (λ _ _. refl) (λ _ _ _ _ n. absurd (n refl))
 
-  arrival-kept : (i : ℕ) → Kept (arrival s i)
-  arrival-kept i = by-arrival s Kept i (λ _ _. refl) (λ _ _ n. absurd (n refl))
+  arrival-kept : (i : ℕ) → KeptBy (arrival s i)
+  arrival-kept i = by-arrival s KeptBy i (λ _ _. refl) (λ _ _ n. absurd (n refl))
 
-  drop-kept : (i : ℕ) → Kept (dropped s i)
-  drop-kept i = by-drop s Kept i (λ _ _. refl) (λ _ n. absurd (n refl))
+  drop-kept : (i : ℕ) → KeptBy (dropped s i)
+  drop-kept i = by-drop s KeptBy i (λ _ _. refl) (λ _ n. absurd (n refl))
 
-  step-kept : (stepNumber (stepped s .outcome) ≡ 0 → ⊥) → stepped s .state ≡ s
-  step-kept = by-step s P (λ _ _. refl) (λ _ _ n. absurd (n refl)) (λ _ _ n. absurd (n refl))
-    where
-      P : Stepped → Type 0
-      P r = (stepNumber (r .outcome) ≡ 0 → ⊥) → r .state ≡ s
+  step-kept : Kept s (stepNumber (stepped s .outcome)) (stepped s .state)
+  step-kept = by-step s (λ (r : Stepped). Kept s (stepNumber (r .outcome)) (r .state)) (λ _ _. refl) (λ _ _ n. absurd (n refl)) (λ _ _ n. absurd (n refl))
 
   -- the state and the lent row
-  pub run-kept : (to : ℕ) (row : List ℕ) → (numberOf (ran s to row .result .answer) ≡ 0 → ⊥) → (ran s to row .result .state ≡ s) × (ran s to row .row ≡ row)
-  run-kept to row = by-run s P to row (λ _ _. (refl, refl)) (λ n. absurd (n refl))
+  pub run-kept : (to : ℕ) (row : List ℕ) → KeptBy (ran s to row .result) × RowKept row (numberOf (ran s to row .result .answer)) (ran s to row .row)
+  run-kept to row = by-run s P to row (λ _. ((λ _. refl), (λ _. refl))) ((λ n. absurd (n refl)), (λ n. absurd (n refl)))
     where
       P : Ran → Type 0
-      P r = (numberOf (r .result .answer) ≡ 0 → ⊥) → (r .result .state ≡ s) × (r .row ≡ row)
+      P r = KeptBy (r .result) × RowKept row (numberOf (r .result .answer)) (r .row)
 
   -- a run without a row is that into any row that is long enough
   pub passed-ran : (to : ℕ) (row : List ℕ) → to - s .clock .0 ≤ length row → passed s to ≡ ran s to row .result
@@ -59,9 +59,16 @@ module _ (s : State) where
       go false false = refl
 
 -- of every state, whatever the call
-pub refused-kept : (c : Call) (s : State) → (refusalOf s c ≡ 0 → ⊥) → apply s c ≡ s
+pub refused-kept : (c : Call) (s : State) → Kept s (refusalOf s c) (apply s c)
 refused-kept (calls.complete i) s n = completion-kept s i n
 refused-kept (calls.arrive i) s n = arrival-kept s i n
 refused-kept (calls.drop i) s n = drop-kept s i n
 refused-kept calls.step s n = step-kept s n
-refused-kept (calls.run to row) s n = run-kept s to row n .0
+refused-kept (calls.run to row) s n = run-kept s to row .0 n
+
+pub demand-1 : Promised
+demand-1 s = record { schedule = λ c. refused-kept c s; row = λ to row. run-kept s to row .1 }
+
+-- .. and so what is claimed a second time
+pub demand-1-restated : again.Promised
+demand-1-restated = skipped demand-1

@@ -54,6 +54,18 @@ grantedNow c = cond (eqb (c .active) 0) 0 (c .stretch .granted)
 abbrev pub lostNow : Activity → ℤ
 lostNow c = cond (eqb (c .active) 0) (pos 0) (c .stretch .lost .0)
 
+-- "holds while some thread of it is [active]": where the application a stands has its active threads in the state s
+abbrev pub Holding : ℕ → State → Activity → Type 0
+Holding a s c = c .active ≡ activesOf a s
+
+-- nothing is left out: the stretches os that are over and the one that holds in c have every granted tick of the history hs
+abbrev pub EachGrant : (ℕ → ℕ) → ℕ → List Over → Activity → List Happening → Type 0
+EachGrant app a os c hs = grantedBy a os + grantedNow c ≡ grantedIn app a hs
+
+-- .. and every loss
+abbrev pub EachLoss : (ℕ → ℕ) → ℕ → List Over → Activity → List Happening → Type 0
+EachLoss app a os c hs = lostBy a os +ℤ lostNow c ≡ lostIn app a hs
+
 -- a table and a sequence of calls from its fresh start
 module _ (usual : ℕ) (t : Table) (cs : List Call) where
   abbrev pub now : State
@@ -74,15 +86,13 @@ module _ (usual : ℕ) (t : Table) (cs : List Call) where
   Balanced a s c = 0 < c .active → aheadOf a s ≡ balance (t .q) (shareOf a t) (s .clock .0) (c .stretch)
 
   pub record Item8 : Type 0 where
-    -- "holds while some thread of it is [active]"
-    pub holds : (a : ℕ) → a < apps → standing a past .active ≡ activesOf a now
+    pub holds : (a : ℕ) → a < apps → Holding a now (standing a past)
     -- between any two events, and "after leaving, before arrivals"
     pub between : (a : ℕ) → a < apps → Balanced a now (standing a past)
     pub after-leaving : (a : ℕ) → a < apps → Balanced a (gone now) (standing a (past ++ leavings now))
     pub ended : All (Even t) overs
-    -- nothing is left out: the stretches have every granted tick and every loss of the history
-    pub all-granted : (a : ℕ) → a < apps → grantedBy a overs + grantedNow (standing a past) ≡ grantedIn (appOf t) a past
-    pub all-lost : (a : ℕ) → a < apps → lostBy a overs +ℤ lostNow (standing a past) ≡ lostIn (appOf t) a past
+    pub all-granted : (a : ℕ) → a < apps → EachGrant (appOf t) a overs (standing a past) past
+    pub all-lost : (a : ℕ) → a < apps → EachLoss (appOf t) a overs (standing a past) past
 
 -- for every admitted table and every sequence of calls from a fresh start, refused ones among them
 abbrev pub Promised : Type 0

@@ -1,4 +1,6 @@
 pub mod Item8
+pub mod Refuted
+pub mod Whole
 pub mod Standing
 pub mod Stand
 pub mod Figures
@@ -19,4 +21,5 @@ pub mod Counted
 pub mod Lasting
 pub mod Lasted
 pub mod Duration
+pub mod Derivation
 pub mod Proved

@@ -13,6 +13,8 @@ use Rattle.rules.specs.History.{leavings}
 use Rattle.rules.specs.Stretches.{Activity, quiet, allQuiet, activities, grantedIn, lostIn, appOf}
 use Rattle.promises.specs.Always.{after-good}
 use Rattle.stretches.specs.Item8.{now, past, standing, overs, Item8, Promised}
+use Rattle.stretches.specs.Whole as again
+use Rattle.stretches.specs.Derivation.{follows}
 use Rattle.stretches.specs.Standing.{Kept}
 use Rattle.stretches.specs.Goes.{activities-append}
 use Rattle.stretches.specs.Leavings.{GoesTo}
@@ -50,3 +52,7 @@ module _ (usual : ℕ) (t : Table) (e : tableAnswer usual t ≡ Done) (cs : List
 
 pub item-8 : Promised
 item-8 usual t e cs = holds usual t e cs
+
+-- .. and so what is claimed a second time
+pub item-8-whole : again.Promised
+item-8-whole = follows item-8
