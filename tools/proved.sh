@@ -37,18 +37,18 @@ sources() {
             [ ! -e "$root/crates/$crate/$part" ] || parts="$parts crates/$crate/$part"
         done
     done
+    [ -n "$parts" ] || return 1
     # shellcheck disable=SC2086 # the parts are words: a crate's name has letters, digits and _
     files=$(cd "$root" && find -L $parts -type f) || return 1
     sums=$(cd "$root" && printf '%s\n' "$files" | LC_ALL=C sort | xargs -d '\n' sha256sum) || return 1
     printf '%s\n' "$lines" "$sums" | sha256sum | cut -d ' ' -f 1
 }
 
-# The toolchain that is here; nothing where there is none.
-toolchain() {
-    if command -v rt >/dev/null; then
-        rt version 2>/dev/null
-    fi
-}
+# The toolchain that is here, or nothing where there is none.
+kit=
+if command -v rt >/dev/null; then
+    kit=$(rt version 2>/dev/null)
+fi
 
 # The comment at the head of the tool $1, with the folder in which it stands.
 help() {
@@ -63,7 +63,6 @@ help() {
 # The version of $1, whose crate is $2: the sum of its sources, and the toolchain.
 version() {
     sum=$(sources "$2") || { say "the sources of $2 cannot be read"; return 2; }
-    kit=$(toolchain)
     printf '%s of Bollardine, sources %.16s, %s\n' "$1" "$sum" "${kit:-no toolchain}"
 }
 
@@ -79,7 +78,6 @@ stamped() {
     bytes=
     [ -r "$root/target/proved/$1.stamp" ] || return 1
     { read -r of && read -r by && read -r bytes; } <"$root/target/proved/$1.stamp" || return 1
-    kit=$(toolchain)
     [ "$of" = "sources $2" ] && { [ -z "$kit" ] || [ "$by" = "toolchain $kit" ]; }
 }
 
@@ -135,7 +133,7 @@ stamp() {
         cp "$root/target/bin/$1" "$file.new" && mv "$file.new" "$file" || return 1
     fi
     bytes=$(sha256sum <"$file" | cut -d ' ' -f 1)
-    printf '%s\n' "sources $2" "toolchain $(toolchain)" "bytes $bytes" >"$file.stamp.new" || return 1
+    printf '%s\n' "sources $2" "toolchain $kit" "bytes $bytes" >"$file.stamp.new" || return 1
     mv "$file.stamp.new" "$root/target/proved/$1.stamp"
 }
 
