@@ -17,11 +17,11 @@ fn accepted(a: Answered) -> State {
 
 /// Steps to the moment `to` and writes the ticks.
 fn run(mut s: State, to: u32) -> State {
-    while s.clock < to {
+    while s.clock() < to {
         let x = bollardine::step(s);
         match x.thread {
-            65535 => println!("{} -", s.clock),
-            thread => println!("{} {}", s.clock, thread),
+            65535 => println!("{} -", s.clock()),
+            thread => println!("{} {}", s.clock(), thread),
         }
         s = x.state;
     }
@@ -39,9 +39,9 @@ fn main() {
     let s = accepted(bollardine::arrive(s, 2));
     println!("free share of application 0: {}", bollardine::free_share(s, 0));
     let s = accepted(bollardine::arrive(s, 2));
-    print!("jobs of thread 2: {}", s.threads[2].jobs);
+    print!("jobs of thread 2: {}", s.threads()[2].jobs);
     let s = accepted(bollardine::drop_waiting(s, 2));
-    println!(", after a drop {}", s.threads[2].jobs);
+    println!(", after a drop {}", s.threads()[2].jobs);
     let s = run(s, 2);
     let s = accepted(bollardine::arrive(s, 1));
     let s = run(s, 5);
@@ -52,6 +52,6 @@ fn main() {
     let s = accepted(bollardine::complete(s, 2));
     let mut row = [0];
     let s = accepted(bollardine::run(s, 8, &mut row));
-    println!("7 {}, clock {}", if row == [65535] { "-" } else { "?" }, s.clock);
+    println!("7 {}, clock {}", if row == [65535] { "-" } else { "?" }, s.clock());
     println!("thread 1 a second time: refused {}", bollardine::complete(s, 1).refusal);
 }
