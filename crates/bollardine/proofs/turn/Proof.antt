@@ -77,7 +77,7 @@ say-requires c κs =
     }
 
 same-length-2 : tie.Need-same-length-2
-same-length-2 c = search needs
+same-length-2 c = c .before .before .before .before .before .before .before .before .before .before .before .before .before .before .before .fill .kept .1 .0
 
 same-length-3 : tie.Need-same-length-3
 same-length-3 c = search needs
