@@ -6,25 +6,26 @@ use Prim.Native.Nat.{ℕ, zero, suc, _+_, _-_, _≤_}
 use native.Mathlib.Omega.{arith}
 use lib.Dec.{eqb}
 use lib.ListN.{length, take, drop, length-drop}
-use lib.Seq.{take-nil, take-add, drop-drop, length-take-le}
+use lib.Seq.{take-nil, take-at, take-add, drop-drop, length-take-le, sets, sets-eq}
 use Rattle.quantities.specs.declared.Turn.{Turn}
-use Rattle.windows.specs.Advance.{Progress, advance}
+use Rattle.windows.specs.Advance.{Progress, widest, advance}
 use Rattle.windows.specs.Feeding.{Bytes, take-bytes, drop-bytes}
+use Rattle.windows.specs.Progresses.{given-begun}
 use Rattle.listing.specs.Way.{turnOf}
 use Rattle.bollardine.specs.declared.Shell.{Shell}
-use Rattle.bollardine.specs.Shell.{Good, stopped, FailedOr, failed, made, window, wants, Filled, Brought, Turned}
+use Rattle.bollardine.specs.Shell.{Good, opened, stopped, StopsOr, stops, made, window, wants, Filled, after, Brought, Turned}
 
 pub good-stopped : {n : ℕ} {s r : Shell} → Good n s → r ≡ stopped s → Good n r
 good-stopped {n} {s} g e = subst (Good n) (sym e) (record { ordered = g .ordered; within = g .within; roomy = g .roomy; given = g .given; undone = λ on. absurd (false≢true on) })
 
--- a program that goes on has not failed to read
-pub has-read : {s r : Shell} {P : Type 0} → FailedOr s r P → r .going ≡ true → P
-has-read (failed e) on = absurd (true≢false (sym on ∙ ap (λ (x : Shell). x .going) e))
+-- a program that goes on has not stopped
+pub has-read : {s r : Shell} {P : Type 0} → StopsOr s r P → r .going ≡ true → P
+has-read (stops e) on = absurd (true≢false (sym on ∙ ap (λ (x : Shell). x .going) e))
 has-read (made p) on = p
 
 -- one that goes on no more after it should have read has failed to
-pub has-failed : {s r : Shell} {b b′ : List ℕ} {P : Type 0} → FailedOr s r (Filled b b′ s r) → r .going ≡ false → FailedOr s r P
-has-failed (failed e) off = failed e
+pub has-failed : {s r : Shell} {b b′ : List ℕ} {P : Type 0} → StopsOr s r (Filled b b′ s r) → r .going ≡ false → StopsOr s r P
+has-failed (stops e) off = stops e
 has-failed (made p) off = absurd (true≢false (sym (p .going) ∙ off))
 
 -- ---- reading on
@@ -90,24 +91,50 @@ left-of b start end n =
     ∙ ap (λ (m : ℕ). take m (drop n (drop start b))) {x = end - (start + n)} {y = end - start - n} (omega arith)
     ∙ sym (drop-take n (end - start) (drop start b))
 
+-- a text that is stored at the start of the output stands there
+pub stands : (out out′ text : List ℕ) → out′ ≡ sets out 0 text → length text ≤ length out → take (length text) out′ ≡ text
+stands out out′ text e h = ap (take (length text)) (e ∙ sets-eq text out 0 (omega (arith, h))) ∙ take-at text (drop (0 + length text) out) (length text) refl
+
+-- .. and is what is handed over, where as many bytes are as it has
+pub handed : (out text : List ℕ) (n : ℕ) → n ≡ length text → take (length text) out ≡ text → take (n - 0) out ≡ text
+handed out text n e begins = ap (λ (k : ℕ). take k out) {x = n - 0} {y = length text} (omega (arith, e)) ∙ begins
+
 -- after the call that is handed the window of f
-pub call-turned : (b b′ : List ℕ) (room : ℕ) (s f : Shell) → Filled b b′ s f → (t : Turn) → t ≡ turnOf (advance (f .last) room (f .progress) (window b′ f)) → t .taken ≤ length (window b′ f) → (still going : Bool) → still ≡ (eqb (t .taken) 0 && eqb (t .written) 0) → Turned b b′ room s (record { progress = t .progress; start = f .start + t .taken; end = f .end; last = f .last; hungry = still; going = going })
-call-turned b b′ room s f filled t is within still going e = record {
+pub call-turned : (b b′ : List ℕ) (room : ℕ) (out : List ℕ) (s f : Shell) → Filled b b′ s f → (t : Turn) → t ≡ turnOf (advance (f .last) room (f .progress) (window b′ f)) → t .taken ≤ length (window b′ f)
+    → take (length (advance (f .last) room (f .progress) (window b′ f) .text)) out ≡ advance (f .last) room (f .progress) (window b′ f) .text → Turned b b′ room out s (after f t)
+call-turned b b′ room out s f filled t is within begins = record {
   got = filled .got;
   came = filled .came;
-  brought = subst (λ (w : List ℕ). Brought b′ r w (advance (f .last) room (s .progress) w)) (filled .behind) (subst (λ (p : Progress). Brought b′ r (window b′ f) (advance (f .last) room p (window b′ f))) (filled .same) brings);
+  brought = subst (λ (w : List ℕ). Brought b′ out (after f t) w (advance (f .last) room (s .progress) w)) (filled .behind) (subst (λ (p : Progress). Brought b′ out (after f t) (window b′ f) (advance (f .last) room p (window b′ f))) (filled .same) brings);
 }
   where
-    r : Shell
-    r = record { progress = t .progress; start = f .start + t .taken; end = f .end; last = f .last; hungry = still; going = going }
-
-    brings : Brought b′ r (window b′ f) (advance (f .last) room (f .progress) (window b′ f))
+    brings : Brought b′ out (after f t) (window b′ f) (advance (f .last) room (f .progress) (window b′ f))
     brings = record {
       progress = ap (λ (x : Turn). x .progress) is;
       within = subst (λ (x : Turn). x .taken ≤ length (window b′ f)) is within;
       left = left-of b′ (f .start) (f .end) (t .taken) ∙ ap (λ (x : Turn). drop (x .taken) (window b′ f)) is;
-      hungry = e ∙ ap (λ (x : Turn). eqb (x .taken) 0 && eqb (x .written) 0) is;
+      hungry = ap (λ (x : Turn). eqb (x .taken) 0 && eqb (x .written) 0) is;
+      begins = begins;
     }
 
-pub turned-stopped : {b b′ : List ℕ} {room : ℕ} {s z r : Shell} → Turned b b′ room s z → r ≡ stopped z → Turned b b′ room s r
-turned-stopped {b} {b′} {room} {s} t e = subst (Turned b b′ room s) (sym e) (record { got = t .got; came = t .came; brought = record { progress = t .brought .progress; within = t .brought .within; left = t .brought .left; hungry = t .brought .hungry } })
+-- ---- the program goes on, or stops where it would have gone on
+pub good-opened : {n : ℕ} → widest ≤ n → Good n opened
+good-opened wide = record { ordered = omega arith; within = omega arith; roomy = λ _ _. omega (arith, wide); given = given-begun; undone = λ _. refl }
+
+pub turned-said : {b b′ : List ℕ} {room : ℕ} {out : List ℕ} {s z r : Shell} → Turned b b′ room out s z → StopsOr z r (r ≡ z) → Turned b b′ room out s r
+turned-said {b} {b′} {room} {out} {s} t (stops e) = subst (Turned b b′ room out s) (sym e) (record {
+  got = t .got;
+  came = t .came;
+  brought = record {
+    progress = t .brought .progress;
+    within = t .brought .within;
+    left = t .brought .left;
+    hungry = t .brought .hungry;
+    begins = t .brought .begins;
+  };
+})
+turned-said {b} {b′} {room} {out} {s} t (made e) = subst (Turned b b′ room out s) (sym e) t
+
+pub good-said : {n : ℕ} {z r : Shell} → Good n z → StopsOr z r (r ≡ z) → Good n r
+good-said g (stops e) = good-stopped g e
+good-said {n} g (made e) = subst (Good n) (sym e) g

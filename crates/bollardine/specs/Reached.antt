@@ -11,7 +11,7 @@ use Rattle.rules.specs.Listing.{heading, listing}
 use Rattle.windows.specs.Advance.{Progress, begun, Advanced, advance}
 use Rattle.windows.specs.Feeding.{Bytes, Feed, turn, written, leaves, comes-to, Honest, any-windows}
 use Rattle.bollardine.specs.declared.Shell.{Shell}
-use Rattle.bollardine.specs.Shell.{stopped, FailedOr, failed, made, window, wants, Turned}
+use Rattle.bollardine.specs.Shell.{opened, stopped, StopsOr, stops, made, window, wants, Turned}
 use Rattle.bollardine.specs.Kept.{last-wants}
 
 -- where the listing has come to
@@ -106,16 +106,17 @@ pub record Fed (b : List ℕ) (s : Shell) : Type 0 where
   pub left : s .going ≡ true → window b s ≡ leaves begun (reached .input) (reached .feeds)
   pub open-so-far : s .last ≡ false → Open (reached .feeds)
 
-pub reached-begun : (s : Shell) → s .progress ≡ begun → Reached s
-unfolding Honest comes-to
-reached-begun s e = record { input = []; bytes = λ i. omega arith; feeds = []; honest = tt; progress = e }
-
-pub fed-begun : (b : List ℕ) (s : Shell) → s .progress ≡ begun → window b s ≡ [] → Fed b s
-unfolding reached-begun Inside Open leaves
-fed-begun b s e w = record { reached = reached-begun s e; inside = tt; left = λ _. w; open-so-far = λ _. tt }
+fed-begun : (b : List ℕ) → Fed b opened
+unfolding Honest comes-to Inside Open leaves
+fed-begun b = record {
+  reached = record { input = []; bytes = λ i. omega arith; feeds = []; honest = tt; progress = refl };
+  inside = tt;
+  left = λ _. refl;
+  open-so-far = λ _. tt;
+}
 
 -- whatever the buffer has
-pub fed-stopped : {b b′ : List ℕ} {s r : Shell} → Fed b s → r ≡ stopped s → Fed b′ r
+fed-stopped : {b b′ : List ℕ} {s r : Shell} → Fed b s → r ≡ stopped s → Fed b′ r
 fed-stopped {b} {b′} {s} x e = subst (Fed b′) (sym e) (record {
   reached = record { input = x .reached .input; bytes = x .reached .bytes; feeds = x .reached .feeds; honest = x .reached .honest; progress = x .reached .progress };
   inside = x .inside;
@@ -123,8 +124,13 @@ fed-stopped {b} {b′} {s} x e = subst (Fed b′) (sym e) (record {
   open-so-far = x .open-so-far;
 })
 
-pub fed-turned : {b b′ : List ℕ} {room : ℕ} {s r : Shell} → Fed b s → s .going ≡ true → Turned b b′ room s r → Fed b′ r
-fed-turned {b} {b′} {room} {s} {r} x on t = record {
+-- the heading line was written, or the program stopped there
+pub fed-opened : {b : List ℕ} {r : Shell} → StopsOr opened r (r ≡ opened) → Fed b r
+fed-opened {b} (stops e) = fed-stopped (fed-begun b) e
+fed-opened {b} (made e) = subst (Fed b) (sym e) (fed-begun b)
+
+pub fed-turned : {b b′ : List ℕ} {room : ℕ} {out : List ℕ} {s r : Shell} → Fed b s → s .going ≡ true → Turned b b′ room out s r → Fed b′ r
+fed-turned {b} {b′} {room} {s = s} {r} x on t = record {
   reached = record {
     input = input;
     bytes = append-bytes (x .reached .input) (t .got) (x .reached .bytes) (t .came .bytes);
@@ -169,7 +175,7 @@ fed-turned {b} {b′} {room} {s} {r} x on t = record {
     before true k e n = sym e ∙ n
     before false k e n = refl
 
--- a turn, or a read that failed
-pub fed-after : {b b′ : List ℕ} {room : ℕ} {s r : Shell} → Fed b s → s .going ≡ true → FailedOr s r (Turned b b′ room s r) → Fed b′ r
-fed-after x on (failed e) = fed-stopped x e
+-- a turn, or none where a read failed
+pub fed-after : {b b′ : List ℕ} {room : ℕ} {out : List ℕ} {s r : Shell} → Fed b s → s .going ≡ true → StopsOr s r (Turned b b′ room out s r) → Fed b′ r
+fed-after x on (stops e) = fed-stopped x e
 fed-after x on (made t) = fed-turned x on t

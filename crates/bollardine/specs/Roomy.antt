@@ -15,7 +15,7 @@ use Rattle.windows.specs.Goes.{Less, move-less, advance-moves, advance-stays, g
 use Rattle.windows.specs.Progresses.{progress-by}
 use Rattle.listing.specs.Way.{turnOf}
 use Rattle.bollardine.specs.declared.Shell.{Shell}
-use Rattle.bollardine.specs.Shell.{Good, window}
+use Rattle.bollardine.specs.Shell.{Good, window, after}
 
 -- such a call leaves the listing where it was
 unmoved : (last : Bool) (room : ℕ) (p : Progress) (w : List ℕ) → advance last room p w .taken ≡ 0 → length (advance last room p w .text) ≡ 0 → advance last room p w .progress ≡ p
@@ -45,13 +45,13 @@ both true b e = (refl, e)
 both false b e = absurd (false≢true e)
 
 -- what is kept after a call that is handed the window of f
-pub good-after : {n : ℕ} (b : List ℕ) (f : Shell) (room : ℕ) → Good n f → f .going ≡ true → length b ≡ n → widest ≤ n → longest ≤ room → (t : Turn) → t ≡ turnOf (advance (f .last) room (f .progress) (window b f)) → t .taken ≤ length (window b f) → (still going : Bool) → still ≡ (eqb (t .taken) 0 && eqb (t .written) 0) → (going ≡ true → t .progress .done ≡ false) → Good n (record { progress = t .progress; start = f .start + t .taken; end = f .end; last = f .last; hungry = still; going = going })
-good-after {n} b f room g on long wide roomy t is within still going e undone = record {
+pub good-after : {n : ℕ} (b : List ℕ) (f : Shell) (room : ℕ) → Good n f → f .going ≡ true → length b ≡ n → widest ≤ n → longest ≤ room → (t : Turn) → t ≡ turnOf (advance (f .last) room (f .progress) (window b f)) → t .taken ≤ length (window b f) → Good n (after f t)
+good-after {n} b f room g on long wide roomy t is within = record {
   ordered = omega (arith, g .ordered, within, size);
   within = g .within;
   roomy = left;
   given = subst GivenProgress (sym (ap (λ (x : Turn). x .progress) is)) (progress-by (g .given) (f .last) room w);
-  undone = undone;
+  undone = λ on. not-true (t .progress .done) on;
 }
   where
     w : List ℕ
@@ -60,10 +60,10 @@ good-after {n} b f room g on long wide roomy t is within still going e undone = 
     size : length w ≡ f .end - f .start
     size = length-take-le (f .end - f .start) (drop (f .start) b) (omega (arith, length-drop (f .start) b, long, g .ordered, g .within))
 
-    left : (still && not (f .last)) ≡ true → t .progress .place ≤ farthest → f .end - (f .start + t .taken) < n
+    left : ((eqb (t .taken) 0 && eqb (t .written) 0) && not (f .last)) ≡ true → t .progress .place ≤ farthest → f .end - (f .start + t .taken) < n
     left asked near =
-        let s = both still (not (f .last)) asked in
-        let q = both (eqb (t .taken) 0) (eqb (t .written) 0) (sym e ∙ s .0) in
+        let s = both (eqb (t .taken) 0 && eqb (t .written) 0) (not (f .last)) asked in
+        let q = both (eqb (t .taken) 0) (eqb (t .written) 0) (s .0) in
         let h = sym (ap (λ (x : Turn). x .taken) is) ∙ eqb-true (t .taken) 0 (q .0) in
         let k = sym (ap (λ (x : Turn). x .written) is) ∙ eqb-true (t .written) 0 (q .1) in
         let l = narrow (f .last) room (f .progress) w (g .undone on) roomy (not-true (f .last) (s .1)) h k (subst (λ (x : Turn). x .progress .place ≤ farthest) is near) in

@@ -2,11 +2,13 @@
 use mathlib.Core.Path.{_≡_}
 use mathlib.Core.Bool.{Bool, true, false, not, _&&_, _||_}
 use mathlib.Core.List.{List, [], _++_}
-use Prim.Native.Nat.{ℕ, _-_, _≤_, _<_}
+use Prim.Native.Nat.{ℕ, _+_, _-_, _≤_, _<_}
 use lib.Dec.{eqb}
 use lib.ListN.{length, take, drop}
-use Rattle.windows.specs.Advance.{longest, widest, farthest, GivenProgress, Advanced, advance}
+use Rattle.quantities.specs.declared.Turn.{Turn}
+use Rattle.windows.specs.Advance.{longest, widest, farthest, begun, GivenProgress, Advanced, advance}
 use Rattle.windows.specs.Feeding.{Bytes}
+use Rattle.listing.specs.Way.{turnOf}
 use Rattle.bollardine.specs.declared.Shell.{Shell}
 
 -- more of the input is wanted, and it has not ended
@@ -35,14 +37,18 @@ pub record Ready (n m : ℕ) (s : Shell) : Type 0 where
   pub going : s .going ≡ true
   pub enough : Enough n m
 
+-- where it begins: nothing is read, and the heading line is written
+abbrev pub opened : Shell
+opened = record { progress = begun; start = 0; end = 0; last = false; hungry = true; going = true }
+
 -- the program goes on no more
 abbrev pub stopped : Shell → Shell
 stopped s = record { progress = s .progress; start = s .start; end = s .end; last = s .last; hungry = s .hungry; going = false }
 
--- a read failed, and the program stops where it was; or else P
-pub data FailedOr (s r : Shell) (P : Type 0) : Type 0 where
-  failed : r ≡ stopped s → FailedOr s r P
-  made : P → FailedOr s r P
+-- the program stops at s, where a read or a write failed, or the input is too long; or else P
+pub data StopsOr (s r : Shell) (P : Type 0) : Type 0 where
+  stops : r ≡ stopped s → StopsOr s r P
+  made : P → StopsOr s r P
 
 -- what was read and not yet taken, of the buffer b
 abbrev pub window : List ℕ → Shell → List ℕ
@@ -67,8 +73,19 @@ pub record Filled (b b′ : List ℕ) (s r : Shell) : Type 0 where
   pub same : r .progress ≡ s .progress
   pub going : r .going ≡ true
 
--- a call that was handed the window w brought a, and r, with the buffer b, is what came of it
-pub record Brought (b : List ℕ) (r : Shell) (w : List ℕ) (a : Advanced) : Type 0 where
+-- the call t was handed the window of f in the buffer b, and this is its text, from the first byte to the last
+pub record Said (text b : List ℕ) (f : Shell) (t : Turn) : Type 0 where
+  pub room : ℕ
+  pub call : t ≡ turnOf (advance (f .last) room (f .progress) (window b f))
+  pub whole : text ≡ advance (f .last) room (f .progress) (window b f) .text
+  pub within : f .start + t .taken ≤ f .end
+
+-- where the call t brings f
+abbrev pub after : Shell → Turn → Shell
+after f t = record { progress = t .progress; start = f .start + t .taken; end = f .end; last = f .last; hungry = eqb (t .taken) 0 && eqb (t .written) 0; going = not (t .progress .done) }
+
+-- a call that was handed the window w brought a, and r, with the buffer b and the output out, is what came of it
+pub record Brought (b out : List ℕ) (r : Shell) (w : List ℕ) (a : Advanced) : Type 0 where
   -- the listing is where the call brought it
   pub progress : r .progress ≡ a .progress
   -- what the call did not take is left
@@ -76,11 +93,13 @@ pub record Brought (b : List ℕ) (r : Shell) (w : List ℕ) (a : Advanced) : Ty
   pub left : window b r ≡ drop (a .taken) w
   -- more is wanted exactly where the call took nothing and wrote nothing
   pub hungry : r .hungry ≡ (eqb (a .taken) 0 && eqb (length (a .text)) 0)
+  -- the output begins with the call's text
+  pub begins : take (length (a .text)) out ≡ a .text
 
--- s, with the buffer b, has taken a turn to r, with the buffer b′ and so much room for what is written
-pub record Turned (b b′ : List ℕ) (room : ℕ) (s r : Shell) : Type 0 where
+-- s, with the buffer b, has taken a turn to r, with the buffer b′ and the output out, which has so much room
+pub record Turned (b b′ : List ℕ) (room : ℕ) (out : List ℕ) (s r : Shell) : Type 0 where
   -- the bytes that were read
   pub got : List ℕ
   pub came : Came s got (r .last)
   -- the call was handed what was left and those bytes behind it
-  pub brought : Brought b′ r (window b s ++ got) (advance (r .last) room (s .progress) (window b s ++ got))
+  pub brought : Brought b′ out r (window b s ++ got) (advance (r .last) room (s .progress) (window b s ++ got))

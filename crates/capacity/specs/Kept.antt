@@ -6,24 +6,26 @@ use Prim.Native.Nat.{ℕ, zero, suc, _+_, _-_, _≤_}
 use native.Mathlib.Omega.{arith}
 use lib.Dec.{eqb}
 use lib.ListN.{length, take, drop, length-drop}
-use lib.Seq.{take-nil, take-add, drop-drop, length-take-le}
+use lib.Seq.{take-nil, take-at, take-add, drop-drop, length-take-le, sets, sets-eq}
+use Rattle.windows.specs.Advance.{widest}
 use Rattle.report.specs.declared.Tally.{Tally}
 use Rattle.report.specs.declared.TallyTurn.{TallyTurn}
+use Rattle.report.specs.Given.{given-begun}
 use Rattle.report.specs.Turns.{Went}
 use Rattle.capacity.specs.declared.Shell.{Shell}
-use Rattle.capacity.specs.Shell.{Good, stopped, FailedOr, failed, made, window, wants, Filled, Turned}
+use Rattle.capacity.specs.Shell.{Good, opened, stopped, StopsOr, stops, made, window, wants, Filled, after, Turned}
 
 pub good-stopped : {n : ℕ} {s r : Shell} → Good n s → r ≡ stopped s → Good n r
 good-stopped {n} {s} g e = subst (Good n) (sym e) (record { ordered = g .ordered; within = g .within; spare = g .spare; given = g .given; undone = λ on. absurd (false≢true on) })
 
--- a program that goes on has not failed to read
-pub has-read : {s r : Shell} {P : Type 0} → FailedOr s r P → r .going ≡ true → P
-has-read (failed e) on = absurd (true≢false (sym on ∙ ap (λ (x : Shell). x .going) e))
+-- a program that goes on has not stopped
+pub has-read : {s r : Shell} {P : Type 0} → StopsOr s r P → r .going ≡ true → P
+has-read (stops e) on = absurd (true≢false (sym on ∙ ap (λ (x : Shell). x .going) e))
 has-read (made p) on = p
 
 -- one that goes on no more after it should have read has failed to
-pub has-failed : {s r : Shell} {b b′ : List ℕ} {P : Type 0} → FailedOr s r (Filled b b′ s r) → r .going ≡ false → FailedOr s r P
-has-failed (failed e) off = failed e
+pub has-failed : {s r : Shell} {b b′ : List ℕ} {P : Type 0} → StopsOr s r (Filled b b′ s r) → r .going ≡ false → StopsOr s r P
+has-failed (stops e) off = stops e
 has-failed (made p) off = absurd (true≢false (sym (p .going) ∙ off))
 
 -- ---- reading on
@@ -88,17 +90,47 @@ left-of b start end n =
     ∙ ap (λ (m : ℕ). take m (drop n (drop start b))) {x = end - (start + n)} {y = end - start - n} (omega arith)
     ∙ sym (drop-take n (end - start) (drop start b))
 
+-- a text that is stored at the start of the output stands there
+pub stands : (out out′ text : List ℕ) → out′ ≡ sets out 0 text → length text ≤ length out → take (length text) out′ ≡ text
+stands out out′ text e h = ap (take (length text)) (e ∙ sets-eq text out 0 (omega (arith, h))) ∙ take-at text (drop (0 + length text) out) (length text) refl
+
+-- .. and is what is handed over, where as many bytes are as it has
+pub handed : (out text : List ℕ) (n : ℕ) → n ≡ length text → take (length text) out ≡ text → take (n - 0) out ≡ text
+handed out text n e begins = ap (λ (k : ℕ). take k out) {x = n - 0} {y = length text} (omega (arith, e)) ∙ begins
+
 -- after the call that is handed the window of f
-pub call-turned : (b b′ out out′ : List ℕ) (s f : Shell) → Filled b b′ s f → (t : TallyTurn) → Went (f .last) (window b′ f) out (f .tally) out′ t → (still going : Bool) → still ≡ (eqb (t .taken) 0 && eqb (t .written) 0) → Turned b b′ out out′ s (record { tally = t .tally; start = f .start + t .taken; end = f .end; last = f .last; hungry = still; going = going })
-call-turned b b′ out out′ s f filled t went still going e = record {
+pub call-turned : (b b′ out out′ : List ℕ) (s f : Shell) → Filled b b′ s f → (t : TallyTurn) (went : Went (f .last) (window b′ f) out (f .tally) out′ t) → Turned b b′ out out′ s (after f t)
+call-turned b b′ out out′ s f filled t went = record {
   got = filled .got;
   came = filled .came;
   answer = t;
-  went = subst (λ (w : List ℕ). Went (f .last) w out (s .tally) out′ t) (filled .behind) (subst (λ (p : Tally). Went (f .last) (window b′ f) out p out′ t) (filled .same) went);
+  went = call;
+  begins = stands out out′ (call .text) (call .stored) (omega (arith, call .writes, call .fits));
   tally = refl;
   left = left-of b′ (f .start) (f .end) (t .taken) ∙ ap (drop (t .taken)) (filled .behind);
-  hungry = e;
+  hungry = refl;
 }
+  where
+    call : Went (f .last) (window b s ++ filled .got) out (s .tally) out′ t
+    call = subst (λ (w : List ℕ). Went (f .last) w out (s .tally) out′ t) (filled .behind) (subst (λ (p : Tally). Went (f .last) (window b′ f) out p out′ t) (filled .same) went)
 
-pub turned-stopped : {b b′ out out′ : List ℕ} {s z r : Shell} → Turned b b′ out out′ s z → r ≡ stopped z → Turned b b′ out out′ s r
-turned-stopped {b} {b′} {out} {out′} {s} t e = subst (Turned b b′ out out′ s) (sym e) (record { got = t .got; came = t .came; answer = t .answer; went = t .went; tally = t .tally; left = t .left; hungry = t .hungry })
+-- ---- the program goes on, or stops where it would have gone on
+pub good-opened : {n : ℕ} → widest ≤ n → Good n opened
+good-opened wide = record { ordered = omega arith; within = omega arith; spare = λ _ _. omega (arith, wide); given = given-begun; undone = λ _. refl }
+
+pub turned-said : {b b′ out out′ : List ℕ} {s z r : Shell} → Turned b b′ out out′ s z → StopsOr z r (r ≡ z) → Turned b b′ out out′ s r
+turned-said {b} {b′} {out} {out′} {s} t (stops e) = subst (Turned b b′ out out′ s) (sym e) (record {
+  got = t .got;
+  came = t .came;
+  answer = t .answer;
+  went = t .went;
+  begins = t .begins;
+  tally = t .tally;
+  left = t .left;
+  hungry = t .hungry;
+})
+turned-said {b} {b′} {out} {out′} {s} t (made e) = subst (Turned b b′ out out′ s) (sym e) t
+
+pub good-said : {n : ℕ} {z r : Shell} → Good n z → StopsOr z r (r ≡ z) → Good n r
+good-said g (stops e) = good-stopped g e
+good-said {n} g (made e) = subst (Good n) (sym e) g

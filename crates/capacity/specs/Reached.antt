@@ -9,7 +9,7 @@ use Rattle.rules.specs.Report.{reportHeading, reportFrom, report}
 use Rattle.report.specs.declared.Tally.{Tally}
 use Rattle.report.specs.Tallies.{begun, restOf}
 use Rattle.capacity.specs.declared.Shell.{Shell}
-use Rattle.capacity.specs.Shell.{stopped, FailedOr, failed, made, window, wants, Turned}
+use Rattle.capacity.specs.Shell.{opened, stopped, StopsOr, stops, made, window, wants, Turned}
 use Rattle.capacity.specs.Kept.{last-wants}
 
 -- where the report has come to
@@ -38,19 +38,20 @@ pub record Fed (b : List ℕ) (s : Shell) : Type 0 where
   -- what the calls left of the input is what is still to be taken
   pub held : s .going ≡ true → window b s ≡ reached .left
 
-pub reached-begun : (s : Shell) → s .tally ≡ begun → Reached s
-reached-begun s e = record { input = []; text = []; left = []; goes = λ behind _. ap (λ (p : Tally). restOf p behind) (sym e) }
-
-pub fed-begun : (b : List ℕ) (s : Shell) → s .tally ≡ begun → window b s ≡ [] → Fed b s
-unfolding reached-begun
-fed-begun b s e w = record { reached = reached-begun s e; held = λ _. w }
+fed-begun : (b : List ℕ) → Fed b opened
+fed-begun b = record { reached = record { input = []; text = []; left = []; goes = λ behind _. refl }; held = λ _. refl }
 
 -- whatever the buffer has
-pub fed-stopped : {b b′ : List ℕ} {s r : Shell} → Fed b s → r ≡ stopped s → Fed b′ r
+fed-stopped : {b b′ : List ℕ} {s r : Shell} → Fed b s → r ≡ stopped s → Fed b′ r
 fed-stopped {b} {b′} {s} x e = subst (Fed b′) (sym e) (record {
   reached = record { input = x .reached .input; text = x .reached .text; left = x .reached .left; goes = x .reached .goes };
   held = λ on. absurd (false≢true on);
 })
+
+-- the heading line was written, or the program stopped there
+pub fed-opened : {b : List ℕ} {r : Shell} → StopsOr opened r (r ≡ opened) → Fed b r
+fed-opened {b} (stops e) = fed-stopped (fed-begun b) e
+fed-opened {b} (made e) = subst (Fed b) (sym e) (fed-begun b)
 
 pub fed-turned : {b b′ out out′ : List ℕ} {s r : Shell} → Fed b s → s .going ≡ true → Turned b b′ out out′ s r → Fed b′ r
 fed-turned {b} {b′} {s = s} {r} x on t = record {
@@ -82,7 +83,7 @@ fed-turned {b} {b′} {s = s} {r} x on t = record {
         ap (λ (v : List ℕ). v ++ behind) (t .came .unwanted (last-wants s l))
         ∙ end (t .came .ends ∙ still (s .last) (wants s && eqb (length (t .got)) 0) l)
 
--- a turn, or a read that failed
-pub fed-after : {b b′ out out′ : List ℕ} {s r : Shell} → Fed b s → s .going ≡ true → FailedOr s r (Turned b b′ out out′ s r) → Fed b′ r
-fed-after x on (failed e) = fed-stopped x e
+-- a turn, or none where a read failed
+pub fed-after : {b b′ out out′ : List ℕ} {s r : Shell} → Fed b s → s .going ≡ true → StopsOr s r (Turned b b′ out out′ s r) → Fed b′ r
+fed-after x on (stops e) = fed-stopped x e
 fed-after x on (made t) = fed-turned x on t

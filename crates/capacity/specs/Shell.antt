@@ -2,12 +2,12 @@
 use mathlib.Core.Path.{_≡_}
 use mathlib.Core.Bool.{Bool, true, false, not, _&&_, _||_}
 use mathlib.Core.List.{List, [], _++_}
-use Prim.Native.Nat.{ℕ, _-_, _≤_, _<_}
+use Prim.Native.Nat.{ℕ, _+_, _-_, _≤_, _<_}
 use lib.Dec.{eqb}
 use lib.ListN.{length, take, drop}
 use Rattle.windows.specs.Advance.{widest, farthest}
 use Rattle.report.specs.declared.TallyTurn.{TallyTurn}
-use Rattle.report.specs.Tallies.{roomy, GivenTally}
+use Rattle.report.specs.Tallies.{roomy, begun, GivenTally}
 use Rattle.report.specs.Turns.{Went}
 use Rattle.capacity.specs.declared.Shell.{Shell}
 
@@ -37,14 +37,18 @@ pub record Ready (n m : ℕ) (s : Shell) : Type 0 where
   pub going : s .going ≡ true
   pub enough : Enough n m
 
+-- where it begins: nothing is read, and the heading line is written
+abbrev pub opened : Shell
+opened = record { tally = begun; start = 0; end = 0; last = false; hungry = true; going = true }
+
 -- the program goes on no more
 abbrev pub stopped : Shell → Shell
 stopped s = record { tally = s .tally; start = s .start; end = s .end; last = s .last; hungry = s .hungry; going = false }
 
--- a read failed, and the program stops where it was; or else P
-pub data FailedOr (s r : Shell) (P : Type 0) : Type 0 where
-  failed : r ≡ stopped s → FailedOr s r P
-  made : P → FailedOr s r P
+-- the program stops at s, where a read or a write failed, or the input is too long; or else P
+pub data StopsOr (s r : Shell) (P : Type 0) : Type 0 where
+  stops : r ≡ stopped s → StopsOr s r P
+  made : P → StopsOr s r P
 
 -- what was read and not yet taken, of the buffer b
 abbrev pub window : List ℕ → Shell → List ℕ
@@ -68,14 +72,28 @@ pub record Filled (b b′ : List ℕ) (s r : Shell) : Type 0 where
   pub same : r .tally ≡ s .tally
   pub going : r .going ≡ true
 
+-- the call t was handed the window of f in the buffer b, and this is its text, from the first byte to the last
+pub record Said (text b : List ℕ) (f : Shell) (t : TallyTurn) : Type 0 where
+  pub out : List ℕ
+  pub out′ : List ℕ
+  pub call : Went (f .last) (window b f) out (f .tally) out′ t
+  pub whole : text ≡ call .text
+  pub within : f .start + t .taken ≤ f .end
+
+-- where the call t brings f
+abbrev pub after : Shell → TallyTurn → Shell
+after f t = record { tally = t .tally; start = f .start + t .taken; end = f .end; last = f .last; hungry = eqb (t .taken) 0 && eqb (t .written) 0; going = not (t .tally .done) }
+
 -- s, with the buffer b, has taken a turn to r, with the buffer b′; the output, which was out, is out′
 pub record Turned (b b′ out out′ : List ℕ) (s r : Shell) : Type 0 where
   -- the bytes that were read
   pub got : List ℕ
   pub came : Came s got (r .last)
-  -- the call was handed what was left and those bytes behind it, and what it wrote stands at the start of the output
+  -- the call was handed what was left and those bytes behind it
   pub answer : TallyTurn
   pub went : Went (r .last) (window b s ++ got) out (s .tally) out′ answer
+  -- the output begins with the call's text
+  pub begins : take (length (went .text)) out′ ≡ went .text
   -- the report is where the call brought it
   pub tally : r .tally ≡ answer .tally
   -- what the call did not take is left

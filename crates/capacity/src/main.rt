@@ -4,9 +4,11 @@ ghost use Prim.Native.Nat.{_-_, _≤_};
 ghost use lib.ListN.{length, take, drop};
 ghost use mathlib.Core.Bool.{true};
 ghost use mathlib.Core.Path.{_≡_};
-ghost use Rattle.capacity.specs.Shell.{Good, Enough, Ready, stopped, FailedOr, Filled, Turned};
+ghost use Rattle.rules.specs.Report.{reportHeading};
+ghost use Rattle.capacity.specs.Shell.{Good, Enough, Ready, opened, stopped, after, StopsOr, Filled, Said, Turned};
 ghost use Rattle.capacity.specs.Reached.{Reached};
 use report::Tally;
+use report::TallyTurn;
 
 // A report while the program runs: how far it has come, the part of the buffer that holds what was
 // read and not yet taken, whether the input has ended there, whether more of it is wanted, and
@@ -48,7 +50,7 @@ fn fill(fd: i32, buf: &mut [u8], s: Shell) -> Shell
     requires { ⌜ Good (length (now buf)) s ⌝ }
     requires { ⌜ s .going ≡ true ⌝ }
     ensures { λ r. ⌜ Good (length (now (buf .entry))) r ⌝ }
-    ensures { λ r. ⌜ FailedOr s r (Filled (now (buf .entry)) (now (buf .exit)) s r) ⌝ }
+    ensures { λ r. ⌜ StopsOr s r (Filled (now (buf .entry)) (now (buf .exit)) s r) ⌝ }
 {
     if !s.hungry {
         return s;
@@ -75,34 +77,25 @@ fn fill(fd: i32, buf: &mut [u8], s: Shell) -> Shell
     }
 }
 
-// One call of the report, and what it wrote.
-fn turn(fd: i32, buf: &mut [u8], out: &mut [u8], s: Shell) -> Shell
-    requires { ⌜ Ready (length (now buf)) (length (now out)) s ⌝ }
-    ensures { λ r. ⌜ Good (length (now (buf .entry))) r ⌝ }
-    ensures { λ r. ⌜ FailedOr s r (Turned (now (buf .entry)) (now (buf .exit)) (now (out .entry)) (now (out .exit)) s r) ⌝ }
+// Writes the text of the call t, all that is handed over, and goes on to where the call brought f.
+fn say(text: &[u8], buf: &[u8], f: Shell, t: TallyTurn) -> Shell
+    requires { ⌜ Said (now text) (now buf) f t ⌝ }
+    ensures { λ r. ⌜ StopsOr (after f t) r (r ≡ after f t) ⌝ }
 {
-    let f = fill(fd, buf, s);
-    if !f.going {
-        return f;
-    }
-    let start = f.start;
-    let end = f.end;
-    let p = f.tally;
-    let t = report::advance(&buf[start..end], f.last, p, out);
     let taken = t.taken;
     let written = t.written;
     let q = t.tally;
     let still = taken == 0 && written == 0;
-    let next = start + taken;
+    let next = f.start + taken;
     let z = Shell {
         tally: q,
         start: next,
-        end: end,
+        end: f.end,
         last: f.last,
         hungry: still,
         going: !q.done,
     };
-    if !io::write_all(1, &out[0..written]) {
+    if !io::write_all(1, text) {
         os::fail(b"capacity: cannot write");
         return ended(z);
     }
@@ -116,19 +109,31 @@ fn turn(fd: i32, buf: &mut [u8], out: &mut [u8], s: Shell) -> Shell
     z
 }
 
-// Writes the heading line.
-fn heading(out: &mut [u8]) -> bool {
-    let h = text::report::report_heading(out, 0);
-    io::write_all(1, &out[0..h])
+// One call of the report, whose text stands at the start of out, and is written.
+fn turn(fd: i32, buf: &mut [u8], out: &mut [u8], s: Shell) -> Shell
+    requires { ⌜ Ready (length (now buf)) (length (now out)) s ⌝ }
+    ensures { λ r. ⌜ Good (length (now (buf .entry))) r ⌝ }
+    ensures { λ r. ⌜ StopsOr s r (Turned (now (buf .entry)) (now (buf .exit)) (now (out .entry)) (now (out .exit)) s r) ⌝ }
+{
+    let f = fill(fd, buf, s);
+    if !f.going {
+        return f;
+    }
+    let start = f.start;
+    let end = f.end;
+    let p = f.tally;
+    let t = report::advance(&buf[start..end], f.last, p, out);
+    let written = t.written;
+    say(&out[0..written], buf, f, t)
 }
 
-// The report of what the descriptor holds.
-fn tell(fd: i32, buf: &mut [u8], out: &mut [u8]) -> Shell
-    requires { ⌜ Enough (length (now buf)) (length (now out)) ⌝ }
-    ensures { λ r. ⌜ Reached r ⌝ }
+// Writes the heading line, all that is handed over, and begins a report.
+fn begin(text: &[u8]) -> Shell
+    requires { ⌜ now text ≡ reportHeading ⌝ }
+    ensures { λ r. ⌜ StopsOr opened r (r ≡ opened) ⌝ }
 {
     let p = report::begin();
-    let mut s = Shell {
+    let s = Shell {
         tally: p,
         start: 0,
         end: 0,
@@ -136,10 +141,20 @@ fn tell(fd: i32, buf: &mut [u8], out: &mut [u8]) -> Shell
         hungry: true,
         going: true,
     };
-    if !heading(out) {
+    if !io::write_all(1, text) {
         os::fail(b"capacity: cannot write");
         return ended(s);
     }
+    s
+}
+
+// The report of what the descriptor holds.
+fn tell(fd: i32, buf: &mut [u8], out: &mut [u8]) -> Shell
+    requires { ⌜ Enough (length (now buf)) (length (now out)) ⌝ }
+    ensures { λ r. ⌜ Reached r ⌝ }
+{
+    let h = text::report::report_heading(out, 0);
+    let mut s = begin(&out[0..h]);
     // the number of turns bounds the loop for the proof, and is never reached
     let mut n: u64 = 0;
     while n < u64::MAX && s.going {

@@ -5,7 +5,7 @@ use lib.ListN.{length}
 use borrow.Author.Needs.{needs}
 use borrow.Author.Tests.{not-false}
 use borrow.Rule.Slice.PartMut.{putMid, take-put}
-use Rattle.capacity.specs.Shell.{failed, made}
+use Rattle.capacity.specs.Shell.{stops, made}
 use Rattle.capacity.specs.Kept.{good-stopped, stays-filled, full-wants, last-wants, read-filled}
 use Rattle.capacity.proofs.fill.Statement.{statement}
 use Rattle.capacity.proofs.fill.Tie as tie
@@ -51,7 +51,7 @@ same-length : tie.Need-same-length
 same-length c = search needs
 
 returns-3 : tie.Need-returns-3
-returns-3 c = (good-stopped (c .before .before .before .before .before .before .before .before .before .before .before .before .before .before .before .before .before .pre .0) (c .ended .ensures), failed (c .ended .ensures))
+returns-3 c = (good-stopped (c .before .before .before .before .before .before .before .before .before .before .before .before .before .before .before .before .before .pre .0) (c .ended .ensures), stops (c .ended .ensures))
 
 sub-count : tie.Need-sub-count
 sub-count c = search needs
