@@ -61,7 +61,7 @@ OUTSIDE = re.compile(r"\s*(//|#|\}|use |ghost |requires|ensures|fn |pub |mod |st
 
 
 def sites(root, crate, files, of_types):
-    """Every change of the code in these files of a crate: file, line number, kind, old line, new line. A crate of types has constants only."""
+    """Every change in these files of a crate: file, line number, kind, old line, new line. A crate of types has constants only."""
     for path in sorted((root / "crates" / crate / "src").glob(files)):
         for number, text in enumerate(path.read_text().splitlines(), 1):
             if "pub const" not in text if of_types else OUTSIDE.match(text):
