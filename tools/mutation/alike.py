@@ -13,6 +13,12 @@ LISTING = "crates/listing/src/lib.rt"
 SWEEP = "crates/listing/src/sweep.rt"
 TICKS = "crates/listing/src/ticks.rt"
 TEXT = "crates/text/src/lib.rt"
+ACTIVITY = "crates/accounts/src/activity.rt"
+NOTED_EVENTS = "crates/accounts/src/events.rt"
+NOTED_LEAVING = "crates/accounts/src/leaving.rt"
+NOTED_TICKS = "crates/accounts/src/ticks.rt"
+LINES = "crates/accounts/src/lines.rt"
+REPORT = "crates/report/src/lib.rt"
 
 CHOICE = "    if b == Table::NOBODY {\n        return idle_tick(z);\n    }\n    charge(z, b, free, best)\n"
 PERIOD = "scaled(t.share, Moment(t.period))"
@@ -182,4 +188,36 @@ ALIKE = {
         (LISTING, "        Decoded::Refused(m) => stop(out, at, used, p, m),", "        Decoded::Refused(m) => stop(out, at, used, reached(p.reading, p.place + n as u64), m),"),
     ],
     "no-sign": [(TEXT, "        let k = put_byte(out, at, b'-');\n        return put_decimal(out, k, n);", "        return put_decimal(out, at, n);")],
+    # ---- request 8: what is lost, and who becomes inactive or active
+    "gift-is-lost": [(NOTED_EVENTS, "        return Amount(0);\n", "        return z;\n")],
+    "leaving-loses-nothing": [(NOTED_LEAVING, "rest(out, used, t, all, i, freed(x, until), until);", "rest(out, used, t, all, i, Amount(0), until);")],
+    "completion-loses-nothing": [(NOTED_EVENTS, "        return Amount(0);\n    }\n    z\n", "        return Amount(0);\n    }\n    Amount(0)\n")],
+    "leaving-unheard": [(NOTED_LEAVING, "    let n = s.count;\n", "    let n: usize = 0;\n")],
+    "leaving-ahead-of-the-clock": [
+        (NOTED_LEAVING, "use threads::amounts::sub;\n", "use threads::amounts::sub;\nuse threads::thread::contends;\nuse threads::thread::inactive;\n"),
+        (NOTED_LEAVING, "        if leaves(x, until) {", "        if !inactive(x) && !contends(x) {"),
+    ],
+    "ending-ahead-of-the-clock": [(NOTED_EVENTS, "    if less(scaled(x.share, until), x.w) {", "    if less(x.w, x.w) {")],
+    "waking-at-each-arrival": [(NOTED_EVENTS, "    if !quiet(closed, x, until) {\n        return y;\n    }\n", "")],
+    # ---- request 8: stretches
+    "stretch-goes-on": [(ACTIVITY, "    if c.active == 0 {", "    if c.active != c.active {")],
+    "stretch-begins-anew": [(ACTIVITY, "    if c.active == 0 {", "    if c.active == c.active {")],
+    "stretch-begins-late": [(ACTIVITY, "                since: now,\n", "                since: Moment(now.0 + 1),\n")],
+    "stretch-of-one-thread": [(LINES, "    if c.active != 0 {\n        return at;\n    }\n", "")],
+    "stretch-over-idle-ticks": [(NOTED_TICKS, "        let how = How::Idle;\n        let to = all_held(out, from, t, cs, tick, how);\n", "        let to = from;\n")],
+    "idle-end-is-even": [(NOTED_TICKS, "        let how = How::Idle;\n", "        let how = How::Over;\n")],
+    # an application that is none has no activity to change
+    "granted-by-thread": [
+        (NOTED_TICKS, "    let a = x.app as usize;\n    let mut all = cs;\n    let c = served(all[a]);\n    all[a] = c;\n",
+         "    let a = had;\n    let mut all = cs;\n    if a < Table::APPS {\n        let c = served(all[a]);\n        all[a] = c;\n    }\n"),
+    ],
+    # ---- request 8: the equation and the report
+    "share-of-all": [(LINES, "    if x.app != a {\n        return 0;\n    }\n", "")],
+    "one-tick-more-elapsed": [(LINES, "    let elapsed = until.0 - x.since.0;", "    let elapsed = until.0 + 1 - x.since.0;")],
+    "lost-taken-away": [(LINES, "    add(sub(given, due), c.lost)\n", "    sub(sub(given, due), c.lost)\n")],
+    "open-left-out": [(REPORT, "    let held = accounts::still_open(out, used, t, cs, r.state.clock);\n", "    let held = used;\n")],
+    "report-goes-on": [
+        (REPORT, "    if let Answer::Refused(m) = a {\n        return stop(out, at, used, p, m);\n    }\n    let next",
+         "    if let Answer::Refused(m) = a {\n        let held = accounts::still_open(out, used, r.table, cs, r.state.clock);\n        return stop(out, at, held, p, m);\n    }\n    let next"),
+    ],
 }

@@ -27,13 +27,16 @@ KINDS = {
         (r"\.e\b", ".w"), (r"\.w\b", ".e"), (r"(?<=: )w,", "e,"), (r"(?<=: )e,", "w,"),
         (r"\.share\b", ".period"), (r"\.period\b", ".share"), (r" \+ ", " - "), (r" - ", " + "), (r" \* ", " + "),
         (r"\bdue\b", "t.w"), (r"\blow\b", "high"), (r"\bend\b", "start"), (r"\bused\b", "at"), (r"\bat\b", "used"),
+        (r"\bsince\b", "until"), (r"\buntil\b", "since"), (r"\bleft\b", "all"),
     ],
     "left out": [(r"^(\s*)[\w.\[\] ]+ \+?= [^;{}]+;$", r"\1")],
     "phase": other("Phase::Inactive", "Phase::Contending", "Phase::NonContending"),
     "order": other("Order::Earlier", "Order::Equal", "Order::Later"),
+    "end": other("How::Over", "How::Idle", "How::Open"),
     "application": [
         (r"\bfree\[own\]", "free[0]"), (r"\bfree\[a\]", "free[0]"), (r"\bbest\[a\]", "best[0]"),
         (r"\ba != own\b", "a == own"), (r"\by\.app\b", "x.app"), (r"\bt\.app\b", "0"),
+        (r"\b[xz]\.app(?= as )", "0"), (r"\ball\[a\]", "all[0]"), (r"\bcs\[a\]", "cs[0]"),
     ],
     "refusal": [(REFUSAL, number_by(1)), (REFUSAL, number_by(-1)), (r"Answer::Refused\(\d+\)", "Answer::Done")],
     "loop": [
@@ -57,9 +60,9 @@ KINDS = {
 OUTSIDE = re.compile(r"\s*(//|#|\}|use |ghost |requires|ensures|fn |pub |mod |struct |impl |const )|\s*$")
 
 
-def sites(root, crate, of_types):
-    """Every change of a crate's code: file, line number, kind, old line, new line. A crate of types has constants only."""
-    for path in sorted((root / "crates" / crate / "src").glob("*.rt")):
+def sites(root, crate, files, of_types):
+    """Every change in these files of a crate: file, line number, kind, old line, new line. A crate of types has constants only."""
+    for path in sorted((root / "crates" / crate / "src").glob(files)):
         for number, text in enumerate(path.read_text().splitlines(), 1):
             if "pub const" not in text if of_types else OUTSIDE.match(text):
                 continue
@@ -75,11 +78,11 @@ def sites(root, crate, of_types):
                             yield str(path.relative_to(root)), number, kind, text, new + mark + comment
 
 
-def drawn(root, crate, seed, of_types):
-    """All changes of a crate in the order in which they are tried: the kinds in turn, each kind in random order."""
+def drawn(root, crate, files, seed, of_types):
+    """All changes in these files of a crate in the order in which they are tried: the kinds in turn, each kind in random order."""
     kinds = {}
     seen = set()
-    for change in sites(root, crate, of_types):
+    for change in sites(root, crate, files, of_types):
         file, line, kind, _, new = change
         if (file, line, new) not in seen:
             seen.add((file, line, new))

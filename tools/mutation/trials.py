@@ -4,8 +4,13 @@ import pathlib
 import platform
 import re
 import shutil
+import signal
 import subprocess
 
+# what a program writes of a trace, and the program
+PROGRAMS = {"listing": "bollardine", "report": "capacity"}
+# the code that the report has for itself; all other code is tried by the listing
+OF_REPORT = ("crates/accounts/", "crates/report/", "crates/capacity/", "crates/text/src/report.rt")
 # the seed and the number of the random traces
 RANDOM = ("7", "600")
 # a crate that holds no function is judged by the crate that holds its constants to the rules
@@ -14,13 +19,23 @@ ACCEPTED = "accepted"
 ENDLESS = "does not end"
 
 
+def kind_of(files):
+    """By what the program writes a change of these files is tried."""
+    return "report" if any(file.startswith(OF_REPORT) for file in files) else "listing"
+
+
 def run(words, folder, seconds=None, **more):
-    """The exit status, None where the time was not enough, and what was said."""
-    try:
-        done = subprocess.run(words, cwd=folder, stdin=subprocess.DEVNULL, stdout=subprocess.PIPE, stderr=subprocess.STDOUT, timeout=seconds, **more)
-    except subprocess.TimeoutExpired:
-        return None, ""
-    return done.returncode, done.stdout.decode(errors="replace")
+    """The exit status, None where the time was not enough, and what was said. What it started ends with it."""
+    pipes = {"stdin": subprocess.DEVNULL, "stdout": subprocess.PIPE, "stderr": subprocess.STDOUT}
+    with subprocess.Popen(words, cwd=folder, start_new_session=True, **pipes, **more) as process:
+        try:
+            said, _ = process.communicate(timeout=seconds)
+        except BaseException as error:
+            os.killpg(process.pid, signal.SIGKILL)
+            if not isinstance(error, subprocess.TimeoutExpired):
+                raise
+            return None, ""
+    return process.returncode, said.decode(errors="replace")
 
 
 def keep_what_is_linked(kit, kept):
@@ -57,14 +72,25 @@ class Place:
         shutil.copytree(root / "crates", self.plain / "crates")
         shutil.copy(root / "crates.txt", self.plain)
         # nothing is compared while a program is built
-        for name in ("bollardine/stdin", "bollardine/stdout", "limits/stdout"):
-            (self.plain / "crates" / name).unlink()
+        for path in [*self.plain.glob("crates/*/stdin"), *self.plain.glob("crates/*/stdout")]:
+            path.unlink()
+        # for rt try every crate is in sight everywhere, so a module with the name of a crate needs another one
+        self.namesakes = [(path.parts[-3], path.stem) for path in root.glob("crates/*/src/*.rt") if (root / "crates" / path.stem).is_dir()]
+        for crate, module in self.namesakes:
+            (self.plain / f"crates/{crate}/src/{module}.rt").unlink()
+        for path in root.glob("crates/*/src/*.rt"):
+            self.put_plain(str(path.relative_to(root)), path.read_text())
         # rt try begins on an interpreter, which is slow and gives up at such a call
         self.edit("crates/limits/src/main.rt", "fn main() {\n", "fn main() {\n    os::arg_count();\n")
         self.edit("crates.txt", " io libc\n", " io os libc\n")
         self.kept = folder / "kept"
         self.kit = folder / "kit"
         keep_what_is_linked(self.kit, self.kept)
+
+    def wrong_as_it_is(self, kind):
+        """What the tests say of the program that writes this while nothing is changed; nothing where all is well."""
+        said = self.tests(kind)
+        return f"the program {PROGRAMS[kind]} is not built" if said is None else "; ".join(filter(None, said.values()))
 
     def edit(self, file, old, new):
         """Edits a file of the copy to build in, in which the old text stands once."""
@@ -73,21 +99,34 @@ class Place:
             raise ValueError(f"{file} has not once {old!r}")
         (self.plain / file).write_text(text.replace(old, new))
 
+    def put_plain(self, file, text):
+        """Puts a text into the copy to build in."""
+        for crate, module in self.namesakes:
+            text = text.replace(f"{crate}::{module}::", f"{crate}::{module}_::")
+            if file.startswith(f"crates/{crate}/src/"):
+                text = re.sub(rf"\b(mod |crate::){module}\b", rf"\1{module}_", text)
+                file = file.replace(f"/{module}.rt", f"/{module}_.rt")
+        (self.plain / file).write_text(text)
+
     def put(self, texts):
         """Puts the texts, by file, into both copies and gives back those that stood there."""
-        before = {file: (self.plain / file).read_text() for file in texts}
-        for folder in (self.proved, self.plain):
-            for file, text in texts.items():
-                (folder / file).write_text(text)
+        before = {file: (self.proved / file).read_text() for file in texts}
+        for file, text in texts.items():
+            (self.proved / file).write_text(text)
+            self.put_plain(file, text)
         return before
 
     def built(self, program):
-        """The program as it is compiled at -O3 with no proof, or None, and what was said."""
+        """The program as it is compiled with no proof, at -O3 or, where its run at -O0 does not end, so; None where it is no program."""
         shutil.rmtree(self.kept, ignore_errors=True)
         self.kept.mkdir()
-        _, said = run(["rt", "try", program], self.plain, 60, env=dict(os.environ, RATTLE_HOME=str(self.kit)))
-        second = self.kept / "1"
-        return (shutil.copy(second, self.folder / program) if second.exists() else None), said
+        status, said = run(["rt", "try", program], self.plain, 120, env=dict(os.environ, RATTLE_HOME=str(self.kit)))
+        made = [self.kept / name for name in ("1", "0") if (self.kept / name).exists()]
+        if made:
+            return shutil.copy(made[0], self.folder / program)
+        if "the front end rejected" in said:
+            return None
+        raise RuntimeError(f"rt try {program} makes no program and ends with {status}: {said}")
 
     # ---- the prover
 
@@ -105,20 +144,19 @@ class Place:
 
     # ---- the tests
 
-    def tests(self):
-        """What the tests say of the program: None where there is none."""
-        program, said = self.built("bollardine")
-        if program is None and "error[" in said:
+    def tests(self, kind):
+        """What the tests say of the program that writes this: None where there is none."""
+        program = self.built(PROGRAMS[kind])
+        if program is None:
             return None
-        stored = self.stored(program) if program else ENDLESS
+        stored = self.stored(kind, program)
         if ENDLESS in stored:
             return {"stored": stored, "random": "", "limits": ""}
-        return {"stored": stored, "random": self.random(program), "limits": self.limits()}
+        return {"stored": stored, "random": self.random(kind, program), "limits": self.limits() if kind == "listing" else ""}
 
     def limits(self):
         """The first line of the program limits that differs from what document 01 says."""
-        program, _ = self.built("limits")
-        status, said = run([program], self.folder, 20) if program else (None, "")
+        status, said = run([self.built("limits")], self.folder, 20)
         if status is None:
             return ENDLESS
         right = (self.root / "crates/limits/stdout").read_text().splitlines()
@@ -127,8 +165,8 @@ class Place:
                 return line
         return ""
 
-    def stored(self, program):
-        """How many stored listings differ, and the first of them."""
+    def stored(self, kind, program):
+        """How many stored listings or reports differ, and the first of them."""
         wrong = []
         for trace in sorted((self.root / "traces").glob("*.trace")):
             try:
@@ -136,19 +174,19 @@ class Place:
                     written = subprocess.run([program], stdin=given, stdout=subprocess.PIPE, stderr=subprocess.DEVNULL, timeout=5).stdout
             except subprocess.TimeoutExpired:
                 return f"{trace.stem} {ENDLESS}"
-            if written != trace.with_suffix(".listing").read_bytes():
+            if written != trace.with_suffix("." + kind).read_bytes():
                 wrong.append(trace.stem)
         if wrong:
             return f"{len(wrong)}: {wrong[0]}"
         # all are right by standard input; what is left is a file by its name
         worked = self.root / "traces/worked"
         _, said = run(["sh", "-c", '"$0" "$1" <&-', program, worked.with_suffix(".trace")], self.folder, 5)
-        return "" if said == worked.with_suffix(".listing").read_text() else "1: worked by its name"
+        return "" if said == worked.with_suffix("." + kind).read_text() else "1: worked by its name"
 
-    def random(self, program):
-        """Which random trace is the first whose listing differs from that of the second program."""
+    def random(self, kind, program):
+        """Which random trace is the first whose listing or report differs from that of the second program."""
         second = self.root / "target/second/release/second"
-        status, said = run([second, "compare", "listing", program, *RANDOM], self.folder, 60)
+        status, said = run([second, "compare", kind, program, *RANDOM], self.folder, 60)
         if status == 0:
             return ""
         found = re.search(r"index (\d+)", said)
