@@ -34,6 +34,7 @@ pub mod Ledger
 pub mod Counted
 pub mod Proved
 pub mod Sound
+pub mod Remainders
 pub mod Tables
 pub mod Taken
 pub mod Idle

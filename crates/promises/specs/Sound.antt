@@ -7,7 +7,7 @@ use native.Mathlib.Omega.{arith}
 use lib.IntN.{pos}
 use lib.ListN.{length, take, set, length-set}
 use lib.Seq.{getD-set-same, getD-set-other}
-use Rattle.integers.specs.Parts.{Small, sub-parts}
+use Rattle.integers.specs.Parts.{Small, dn, sub-parts}
 use Rattle.lists.specs.Sum.{sumBy, sum-le, sum-take-le, sum-store}
 use Rattle.lists.specs.Take.{sum-at}
 use Rattle.lists.specs.All.{all-at}
@@ -28,11 +28,14 @@ use Rattle.promises.specs.Sizes.{w-dn}
 -- one thread
 pub record RowOk (x : Thread) : Type 0 where
   pub app-max : x .app < 16
+  pub share-min : 0 < x .share
   pub share-max : x .share ≤ maxQ
   pub period-max : x .period ≤ maxPeriod
   pub jobs-max : x .jobs ≤ maxJobs
   pub w-small : Small (x .w .0)
   pub e-small : Small (x .e .0)
+  -- "Deadlines are not negative here."
+  pub e-whole : dn (x .e .0) ≡ 0
 
 -- a state
 pub record Sound (s : State) : Type 0 where
@@ -60,11 +63,13 @@ sound {s} g = record {
       let w = f .e-whole in
       record {
         app-max = f .app-max;
+        share-min = f .share-min;
         share-max = share-max;
         period-max = f .period-max;
         jobs-max = f .jobs-max;
         w-small = record { up-small = omega (arith, f .w-up); dn-small = omega arith };
         e-small = record { up-small = omega (arith, f .e-up); dn-small = omega arith };
+        e-whole = w;
       };
 }
 
@@ -128,7 +133,7 @@ ended-sound {s} g i h = record {
 }
   where
     ended : RowOk (ends (at (s .threads) i))
-    ended = let o = g .ok i h in record { app-max = o .app-max; share-max = o .share-max; period-max = o .period-max; jobs-max = omega arith; w-small = record { up-small = omega arith; dn-small = omega arith }; e-small = record { up-small = omega arith; dn-small = omega arith } }
+    ended = let o = g .ok i h in record { app-max = o .app-max; share-min = o .share-min; share-max = o .share-max; period-max = o .period-max; jobs-max = omega arith; w-small = record { up-small = omega arith; dn-small = omega arith }; e-small = record { up-small = omega arith; dn-small = omega arith }; e-whole = refl }
 
     by : (j : ℕ) → j < s .count → Dec (j ≡ i) → RowOk (at (set (s .threads) i (ends (at (s .threads) i))) j)
     by j l (yes e) = rw (e, getD-set-same (s .threads) i (ends (at (s .threads) i)) blank (omega (arith, g .few, g .long))) ended

@@ -15,12 +15,13 @@ use lib.Seq.{getD-set-same, getD-set-other}
 use Rattle.lists.specs.MapTo.{mapTo, map-none, map-at, map-has, map-stays, map-more}
 use Rattle.lists.specs.Sum.{sum-none, sum-more}
 use Rattle.rules.specs.Limits.{maxApp, nobody}
-use Rattle.rules.specs.Threads.{Thread, State, blank, at, withRows, isInactive, active, activeIn, freeShare, free, freeOf, sooner, closer, earliest, loses, loseAt}
+use Rattle.rules.specs.Threads.{Thread, State, blank, at, withRows, isInactive, active, activeIn, freeShare, free, freeOf, isEarlier, sooner, closer, earliest, loses, loseAt}
 use Rattle.rules.specs.Leaving.{leave, gone}
 use Rattle.rules.specs.Charge.{beneficiary, benefits}
 use Rattle.promises.specs.Cases.{by-test, and-false}
 use Rattle.promises.specs.Deadlines.{earliest-in}
-use Rattle.promises.specs.Sound.{Sound}
+use Rattle.promises.specs.Sound.{Sound, RowOk}
+use Rattle.promises.specs.Remainders.{Deadline, deadlineOf, compareParts, parts-sooner}
 
 -- ---- every thread changed by f in turn; z is s with the first i of them changed
 module _ (f : Thread → Thread) (s : State) where
@@ -108,25 +109,38 @@ free-none {s} g a h (suc n) k = ap (λ m. free a m (s .threads)) (sym (add-one n
 abbrev pub besideOf : ℕ → ℕ → ℕ
 besideOf b i = cond (eqb b nobody) i b
 
--- b, or i if it passes and b is nobody or has a later deadline
-abbrev pub firstOf : Bool → Thread → Thread → ℕ → ℕ → ℕ
-firstOf c x o b i = cond c (cond (eqb b nobody) i (cond (sooner x o) i b)) b
+-- b, or i if it passes and b is nobody or has a later deadline; d and o are the deadlines of i and b
+abbrev pub firstOf : Bool → Deadline → Deadline → ℕ → ℕ → ℕ
+firstOf c d o b i = cond c (cond (eqb b nobody) i (cond (isEarlier (compareParts d o)) i b)) b
 
 module _ (p : Thread → Bool) (xs : List Thread) (i b : ℕ) (e : b ≡ earliest p i xs) where
   pub beside-in : besideOf b i < i + 1
   beside-in = by-test (λ k. k < i + 1) (eqb b nobody) (λ _. omega arith) (λ n. omega (arith, e, earliest-in p i xs (λ z. eqb-false b nobody n (e ∙ z)) .0))
 
-  pub first-more : (x o : Thread) → x ≡ at xs i → o ≡ at xs (besideOf b i) → firstOf (p x) x o b i ≡ earliest p (i + 1) xs
+  pub first-more : (ok : (k : ℕ) → k < i + 1 → RowOk (at xs k)) (c : Bool) → c ≡ p (at xs i) → (d o : Deadline) → d ≡ deadlineOf (at xs i) → o ≡ deadlineOf (at xs (besideOf b i)) → firstOf c d o b i ≡ earliest p (i + 1) xs
   unfolding earliest
-  first-more x o h k = ap (λ (y : Thread). firstOf (p x) x y b i) k
-      ∙ ap (λ (y : Thread). firstOf (p y) y (at xs (besideOf b i)) b i) h
-      ∙ go (eqb b nobody)
+  first-more ok c q d o h k = rw (q, parts-sooner (ok i (omega arith)) (ok (besideOf b i) beside-in) h k)
+      (go (eqb b nobody)
       ∙ ap (λ m. closer p xs m i) e
-      ∙ sym (ap (λ m. earliest p m xs) (add-one i))
+      ∙ sym (ap (λ m. earliest p m xs) (add-one i)))
     where
       go : (c : Bool) → cond (p (at xs i)) (cond c i (cond (sooner (at xs i) (at xs (cond c i b))) i b)) b ≡ cond (p (at xs i)) (cond c i (cond (sooner (at xs i) (at xs b)) i b)) b
       go true = refl
       go false = refl
+
+-- ---- the deadlines in two parts of the first n threads
+abbrev pub undue : Deadline
+undue = record { whole = 0; remainder = 0; share = 0 }
+
+abbrev pub Dues : List Thread → ℕ → List Deadline → Type 0
+Dues xs n ds = (k : ℕ) → k < n → getD ds k undue ≡ deadlineOf (at xs k)
+
+pub due-more : (xs : List Thread) (n : ℕ) (ds : List Deadline) (d : Deadline) → n < length ds → Dues xs n ds → d ≡ deadlineOf (at xs n) → Dues xs (n + 1) (set ds n d)
+due-more xs n ds d l inv e k h = go (ℕ-discrete k n)
+  where
+    go : Dec (k ≡ n) → getD (set ds n d) k undue ≡ deadlineOf (at xs k)
+    go (yes p) = subst (λ m. getD (set ds n d) m undue ≡ deadlineOf (at xs m)) (sym p) (getD-set-same ds n d undue l ∙ e)
+    go (no m) = getD-set-other ds n k d undue m ∙ inv k (omega (arith, m))
 
 -- ---- one turn of each table; x is the thread whose turn it is, app its application
 module _ (xs : List Thread) (i : ℕ) (f : List ℕ) (long : length f ≡ 16) (x : Thread) (e : x ≡ at xs i) (app : ℕ) (own : app ≡ x .app) (k : app < 16) where
@@ -147,11 +161,11 @@ module _ (xs : List Thread) (i : ℕ) (f : List ℕ) (long : length f ≡ 16) (x
   pub free-more : i < length xs → Table16 (λ a. free a i xs) f → Table16 (λ a. free a (i + 1) xs) (set f app (getD f app 0 + cond (isInactive (x .phase)) (x .share) 0))
   free-more l inv = table-more (λ a. free a i xs) (λ a. free a (i + 1) xs) f app _ long k inv (free-own l inv) (λ a n. free-other xs i l a (other n))
 
-  pub best-more : (o : Thread) → o ≡ at xs (besideOf (getD f app 0) i) → Table16 (λ a. earliest (activeIn a) i xs) f
-      → Table16 (λ a. earliest (activeIn a) (i + 1) xs) (set f app (firstOf (active x) x o (getD f app 0) i))
-  best-more o h inv =
+  pub best-more : (ok : (k : ℕ) → k < i + 1 → RowOk (at xs k)) (d o : Deadline) → d ≡ deadlineOf (at xs i) → o ≡ deadlineOf (at xs (besideOf (getD f app 0) i)) → Table16 (λ a. earliest (activeIn a) i xs) f
+      → Table16 (λ a. earliest (activeIn a) (i + 1) xs) (set f app (firstOf (active x) d o (getD f app 0) i))
+  best-more ok d o g h inv =
       table-more (λ a. earliest (activeIn a) i xs) (λ a. earliest (activeIn a) (i + 1) xs) f app _ long k inv
-      (ap (λ c. firstOf c x o (getD f app 0) i) (with-own (active x)) ∙ first-more (activeIn app) xs i (getD f app 0) (inv app k) x o e h)
+      (first-more (activeIn app) xs i (getD f app 0) (inv app k) ok (active x) (with-own (active x) ∙ ap (activeIn app) e) d o g h)
       (λ a n. first-other xs i a (other n))
 
 -- ---- one turn of the handing out

@@ -15,6 +15,22 @@ pub enum Order {
     Later,
 }
 
+// A deadline in two parts: whole ticks, and a remainder below the share, in parts of it. E is whole × share + remainder.
+pub struct Deadline {
+    pub whole: u64,
+    pub remainder: u32,
+    pub share: u32,
+}
+
+impl Deadline {
+    // of no thread
+    pub const NONE: Deadline = Deadline {
+        whole: 0,
+        remainder: 0,
+        share: 0,
+    };
+}
+
 pub enum Phase {
     Inactive,
     Contending,

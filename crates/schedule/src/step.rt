@@ -10,6 +10,7 @@ use crate::passes::charge;
 use crate::passes::idle_tick;
 use quantities::Answer;
 use quantities::Answered;
+use quantities::Deadline;
 use quantities::Moment;
 use quantities::Outcome;
 use quantities::State;
@@ -17,6 +18,7 @@ use quantities::Stepped;
 use quantities::Table;
 use threads::thread::beside;
 use threads::thread::contends;
+use threads::thread::deadline;
 use threads::thread::first;
 use threads::thread::fit_one;
 use threads::thread::is_active;
@@ -24,7 +26,8 @@ use threads::thread::left_unless;
 use threads::thread::spare;
 
 // The state after one tick before the clock's end; who had it stands in the state. Steps 2, 4 and 5
-// are loops of one function, since a state that goes from function to function is copied.
+// are loops of one function, since a state that goes from function to function is copied; a thread's
+// deadline is parted once, and stands in `due` for the comparisons after it.
 fn tick(s: State) -> State
     requires { ⌜ Given s × (s .clock .0 ≡ clockEnd → ⊥) ⌝ }
     ensures { λ r. ⌜ r ≡ stepped s .state ⌝ }
@@ -48,6 +51,7 @@ fn tick(s: State) -> State
     }
     let mut b: usize = Table::NOBODY;
     let mut best = [Table::NOBODY; Table::APPS];
+    let mut due = [Deadline::NONE; Table::MAX_THREADS];
     let mut j: usize = 0;
     // step 4, and of those that fit by now who would be chosen (5) and who would benefit (6)
     while j < n {
@@ -56,13 +60,15 @@ fn tick(s: State) -> State
         let room = q - free[a];
         let t = fit_one(x, room);
         z.threads[j] = t;
+        let d = deadline(t);
+        due[j] = d;
         let k = beside(b, j);
-        let o = z.threads[k];
-        b = first(contends(t), t, o, b, j);
+        let o = due[k];
+        b = first(contends(t), d, o, b, j);
         let f = best[a];
         let m = beside(f, j);
-        let p = z.threads[m];
-        best[a] = first(is_active(t), t, p, f, j);
+        let p = due[m];
+        best[a] = first(is_active(t), d, p, f, j);
         j += 1;
     }
     if b == Table::NOBODY {

@@ -5,6 +5,7 @@ ghost use lib.IntN.{pos, _+ℤ_, _-ℤ_, _*ℤ_};
 ghost use lib.Signed.{ltZ};
 ghost use mir.Syntax.{w64};
 ghost use mir.Val.{SFits};
+ghost use Rattle.integers.specs.Parts.{up, dn};
 ghost use Rattle.rules.specs.Limits.{maxQ};
 ghost use Rattle.rules.specs.Threads.{amt};
 use quantities::Amount;
@@ -42,6 +43,14 @@ pub fn times(a: Amount, u: u32) -> Amount
     ensures { λ r. ⌜ r ≡ amt (a .0 *ℤ pos u) ⌝ }
 {
     Amount(a.0 * (u as i64))
+}
+
+// An amount that is not negative, as a number.
+pub fn count_of(a: Amount) -> u64
+    requires { ⌜ dn (a .0) ≡ 0 ⌝ }
+    ensures { λ r. ⌜ r ≡ up (a .0) ⌝ }
+{
+    a.0 as u64
 }
 
 // u × t: the one way from a moment to an amount.

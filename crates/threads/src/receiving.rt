@@ -2,6 +2,7 @@
 ghost use mathlib.Core.Path.{_≡_};
 ghost use Rattle.rules.specs.Completion.{ends, takes, receiver};
 ghost use Rattle.promises.specs.Sound.{Sound, RowOk};
+use crate::thread::deadline;
 use crate::thread::earlier;
 use crate::thread::inactive;
 use quantities::Amount;
@@ -36,7 +37,7 @@ fn can_take(x: Thread, y: Thread) -> bool
     if y.app != x.app {
         return false;
     }
-    !earlier(y, x)
+    !earlier(deadline(y), deadline(x))
 }
 
 // Who receives what x frees, or NOBODY.
@@ -54,7 +55,7 @@ pub fn find_receiver(s: State, x: Thread) -> usize
                 b = i;
             } else {
                 let o = s.threads[b];
-                if earlier(t, o) {
+                if earlier(deadline(t), deadline(o)) {
                     b = i;
                 }
             }

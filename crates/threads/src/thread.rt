@@ -4,18 +4,20 @@ ghost use mathlib.Core.Bool.{cond};
 ghost use Prim.Native.Nat.{_≤_};
 ghost use Rattle.integers.specs.Parts.{Small};
 ghost use Rattle.rules.specs.Limits.{maxQ};
-ghost use Rattle.rules.specs.Threads.{isInactive, isContending, active, idle, compare, sooner, loses};
+ghost use Rattle.rules.specs.Threads.{isInactive, isContending, active, idle, isEarlier, loses};
 ghost use Rattle.rules.specs.Leaving.{leave};
 ghost use Rattle.rules.specs.Fitting.{fit};
 ghost use Rattle.promises.specs.Sound.{RowOk};
+ghost use Rattle.promises.specs.Remainders.{deadlineOf, Parted, compareParts};
 ghost use Rattle.promises.specs.Tables.{besideOf, firstOf};
 use crate::amounts::add;
 use crate::amounts::amount_of;
+use crate::amounts::count_of;
 use crate::amounts::less;
 use crate::amounts::scaled;
 use crate::amounts::sub;
-use crate::amounts::times;
 use quantities::Amount;
+use quantities::Deadline;
 use quantities::Moment;
 use quantities::Order;
 use quantities::Phase;
@@ -122,27 +124,48 @@ pub fn fit_one(t: Thread, room: u32) -> Thread
     t
 }
 
-// How the deadline of t stands to that of o, as fractions.
-pub fn compared(t: Thread, o: Thread) -> Order
-    requires { ⌜ RowOk t × RowOk o ⌝ }
-    ensures { λ r. ⌜ r ≡ compare t o ⌝ }
+// The deadline of t in two parts; it is not negative.
+pub fn deadline(t: Thread) -> Deadline
+    requires { ⌜ RowOk t ⌝ }
+    ensures { λ r. ⌜ r ≡ deadlineOf t ⌝ }
 {
-    let p = times(t.e, o.share);
-    let q = times(o.e, t.share);
-    if less(p, q) {
+    let e = count_of(t.e);
+    let u = t.share as u64;
+    Deadline {
+        whole: e / u,
+        remainder: (e % u) as u32,
+        share: t.share,
+    }
+}
+
+// How the deadline d stands to o, as fractions: by their whole parts, and only where those are equal
+// by their remainders, each times the other's share.
+pub fn compared(d: Deadline, o: Deadline) -> Order
+    requires { ⌜ Parted d × Parted o ⌝ }
+    ensures { λ r. ⌜ r ≡ compareParts d o ⌝ }
+{
+    if d.whole < o.whole {
         return Order::Earlier;
     }
-    if less(q, p) {
+    if o.whole < d.whole {
+        return Order::Later;
+    }
+    let p = d.remainder * o.share;
+    let q = o.remainder * d.share;
+    if p < q {
+        return Order::Earlier;
+    }
+    if q < p {
         return Order::Later;
     }
     Order::Equal
 }
 
-pub fn earlier(t: Thread, o: Thread) -> bool
-    requires { ⌜ RowOk t × RowOk o ⌝ }
-    ensures { λ r. ⌜ r ≡ sooner t o ⌝ }
+pub fn earlier(d: Deadline, o: Deadline) -> bool
+    requires { ⌜ Parted d × Parted o ⌝ }
+    ensures { λ r. ⌜ r ≡ isEarlier (compareParts d o) ⌝ }
 {
-    let c = compared(t, o);
+    let c = compared(d, o);
     match c {
         Order::Earlier => true,
         Order::Equal => false,
@@ -160,17 +183,17 @@ pub fn beside(b: usize, i: usize) -> usize
     b
 }
 
-// The earliest so far, b, or thread i: i if it passes and b is nobody or has a later deadline. t and
-// o are the threads i and b.
-pub fn first(passes: bool, t: Thread, o: Thread, b: usize, i: usize) -> usize
-    requires { ⌜ RowOk t × RowOk o ⌝ }
-    ensures { λ r. ⌜ r ≡ firstOf passes t o b i ⌝ }
+// The earliest so far, b, or thread i: i if it passes and b is nobody or has a later deadline. d and
+// o are the deadlines of i and b.
+pub fn first(passes: bool, d: Deadline, o: Deadline, b: usize, i: usize) -> usize
+    requires { ⌜ Parted d × Parted o ⌝ }
+    ensures { λ r. ⌜ r ≡ firstOf passes d o b i ⌝ }
 {
     if passes {
         if b == Table::NOBODY {
             return i;
         }
-        if earlier(t, o) {
+        if earlier(d, o) {
             return i;
         }
     }

@@ -4,7 +4,7 @@ use native.Mathlib.Nat.{le-antisymm, le-refl}
 use native.Mathlib.Omega.{arith}
 use lib.ListN.{length, getD, set, length-set, getD-replicate}
 use Rattle.lists.specs.Sum.{sum-none}
-use Rattle.rules.specs.Limits.{nobody}
+use Rattle.rules.specs.Limits.{maxThreads, nobody}
 use Rattle.rules.specs.Threads.{Thread, State, withRows, at, contends, activeIn, earliest, free, freeShare, freeOf}
 use Rattle.rules.specs.Leaving.{gone}
 use Rattle.rules.specs.Fitting.{fit, fitIn, fitted}
@@ -12,7 +12,8 @@ use Rattle.promises.specs.Keep.{fit-app}
 use Rattle.promises.specs.Ready.{gone-beside, gone-good}
 use Rattle.promises.specs.Always.{given-good}
 use Rattle.promises.specs.Sound.{RowOk, Sound, sound, given-sound, free-le}
-use Rattle.promises.specs.Tables.{Changed, change-none, change-next, change-had, change-turn, change-more, leaves, gone-is, Table16, beside-in, first-more, free-own, free-more, best-more}
+use Rattle.promises.specs.Remainders.{deadlineOf, parted-is}
+use Rattle.promises.specs.Tables.{Changed, change-none, change-next, change-turn, change-more, leaves, gone-is, Table16, Dues, due-more, beside-in, first-more, free-own, free-more, best-more}
 use Rattle.promises.specs.Taken.{Left, left-all, l-sound, l-count, l-q, fit-sound, Chose, fit-all, best-all, z-steady, z-time, z-free, b-in, is-idle, is-grant}
 use borrow.Author.Needs.{needs}
 use Rattle.schedule.proofs.step.tick.Statement.{statement}
@@ -25,12 +26,14 @@ Inv-loop n q now closed z₀ f₀ i₀ z f i = (i ≤ n) × (length f ≡ 16) ×
 abbrev μ-loop : tie.MeasureT-loop
 μ-loop n q now closed z₀ f₀ i₀ z f i = n - i
 
--- the first j threads fit; b and best are the earliest of them
+-- the first j threads fit; b and best are the earliest of them, and due has their deadlines
 abbrev Inv-loop2 : tie.InvT-loop2
-Inv-loop2 n q closed z₀ f i b₀ best₀ j₀ z b best j = (j ≤ n) × (length best ≡ 16) × Changed (fitIn z₀) z₀ j z × (b ≡ earliest contends j (fitted z₀ .threads)) × Table16 (λ a. earliest (activeIn a) j (fitted z₀ .threads)) best
+Inv-loop2 n q closed z₀ f i b₀ best₀ due₀ j₀ z b best due j =
+    (j ≤ n) × (length best ≡ 16) × Changed (fitIn z₀) z₀ j z × (b ≡ earliest contends j (fitted z₀ .threads))
+    × Table16 (λ a. earliest (activeIn a) j (fitted z₀ .threads)) best × (length due ≡ maxThreads) × Dues (fitted z₀ .threads) j due
 
 abbrev μ-loop2 : tie.MeasureT-loop2
-μ-loop2 n q closed z₀ f i b₀ best₀ j₀ z b best j = n - j
+μ-loop2 n q closed z₀ f i b₀ best₀ due₀ j₀ z b best due j = n - j
 
 -- ---- leaving and the free shares
 loop-holds : tie.Need-loop-holds Inv-loop μ-loop Inv-loop2 μ-loop2
@@ -130,7 +133,7 @@ all-left c = let l = c .before .loop in left-all (given-good (c .before .before 
 -- ---- fitting, the choice and the beneficiaries; g is the state once all have left
 loop2-holds : tie.Need-loop2-holds Inv-loop μ-loop Inv-loop2 μ-loop2
 unfolding earliest
-loop2-holds c = let g = c .before .loop .z in (omega arith, refl, change-none (fitIn g) g, refl, λ a h. getD-replicate 16 a nobody 0 h)
+loop2-holds c = let g = c .before .loop .z in (omega arith, refl, change-none (fitIn g) g, refl, λ a h. getD-replicate 16 a nobody 0 h, refl, λ k h. absurd (omega (arith, h)))
 
 within : (c : tie.In-loop2 Inv-loop μ-loop Inv-loop2 μ-loop2) → c .before .loop2 .j < c .before .before .before .loop .z .count
 within c = omega (arith, l-count (all-left (c .before .before)), c .loop2-test .taken)
@@ -199,46 +202,49 @@ stored c =
     let g = d .before .before .before .loop .z in
     change-more (fitIn g) g (l-sound (all-left (d .before .before))) (m .j) (within d) (m .inv .2) _ (fits c)
 
--- .. of which any thread up to j is as it will be
-seen : (c : tie.After-fit-one Inv-loop μ-loop Inv-loop2 μ-loop2) (k : _) → let z = c .before .before .before .before .loop2 .z in let j = c .before .before .before .before .loop2 .j in k < j + 1 → at (set (z .threads) j (c .fit-one .result)) k ≡ at (fitted (c .before .before .before .before .before .before .loop .z) .threads) k
+-- any thread up to j, once it fits, is within bounds
+seen-ok : (c : tie.After-fit-one Inv-loop μ-loop Inv-loop2 μ-loop2) (k : _) → k < c .before .before .before .before .loop2 .j + 1 → RowOk (at (fitted (c .before .before .before .before .before .before .loop .z) .threads) k)
 unfolding fitted
-seen c k h =
-    let d = c .before .before .before in
+seen-ok c k h = let d = c .before .before .before in fit-sound (all-left (d .before .before)) .ok k (omega (arith, within d))
+
+deadline-requires : tie.Need-deadline-requires Inv-loop μ-loop Inv-loop2 μ-loop2
+deadline-requires c κs = subst RowOk (sym (fitted-at c)) (seen-ok c _ (omega arith))
+
+mul-due : tie.Need-mul-due Inv-loop μ-loop Inv-loop2 μ-loop2
+mul-due c = omega (arith, element-copy-out-x-2 (c .before .before .before .before))
+
+array-set-from-due : tie.Need-array-set-from-due Inv-loop μ-loop Inv-loop2 μ-loop2
+array-set-from-due c = element-copy-out-x-2 (c .before .before .before .before)
+
+-- the deadline of thread j
+parts : (c : tie.After-deadline Inv-loop μ-loop Inv-loop2 μ-loop2) → c .deadline .result ≡ deadlineOf (at (fitted (c .before .before .before .before .before .before .before .loop .z) .threads) (c .before .before .before .before .before .loop2 .j))
+parts c = c .deadline .ensures ∙ ap deadlineOf (fitted-at (c .before))
+
+-- .. stands with those before it
+dues : (c : tie.After-deadline Inv-loop μ-loop Inv-loop2 μ-loop2) → let m = c .before .before .before .before .before .loop2 in Dues (fitted (c .before .before .before .before .before .before .before .loop .z) .threads) (m .j + 1) (set (m .due) (m .j) (c .deadline .result))
+dues c =
+    let d = c .before .before .before .before in
     let m = d .before .loop2 in
-    let g = d .before .before .before .loop .z in
-    change-had (fitIn g) g (l-sound (all-left (d .before .before))) (m .j + 1) k (omega (arith, within d)) h (stored c)
-
--- .. and its numbers are small
-seen-ok : (c : tie.After-fit-one Inv-loop μ-loop Inv-loop2 μ-loop2) (k : _) → let z = c .before .before .before .before .loop2 .z in let j = c .before .before .before .before .loop2 .j in k < j + 1 → RowOk (at (set (z .threads) j (c .fit-one .result)) k)
-unfolding fitted
-seen-ok c k h =
-    let d = c .before .before .before in
-    subst RowOk (sym (seen c k h)) (fit-sound (all-left (d .before .before)) .ok k (omega (arith, within d)))
-
-turn-ok : (c : tie.After-fit-one Inv-loop μ-loop Inv-loop2 μ-loop2) → RowOk (c .fit-one .result)
-unfolding fitted
-turn-ok c =
-    let d = c .before .before .before in
-    subst RowOk (sym (fitted-at c)) (fit-sound (all-left (d .before .before)) .ok (d .before .loop2 .j) (within d))
+    due-more (fitted (d .before .before .before .loop .z) .threads) (m .j) (m .due) (c .deadline .result) (omega (arith, element-copy-out-x-2 d, m .inv .5)) (m .inv .6) (parts c)
 
 beside-requires : tie.Need-beside-requires Inv-loop μ-loop Inv-loop2 μ-loop2
 beside-requires c κs = search needs
 
 -- the earliest so far is a thread before j, or j stands in its place
-beside-b : (c : tie.After-beside Inv-loop μ-loop Inv-loop2 μ-loop2) → c .beside .result < c .before .before .before .before .before .loop2 .j + 1
+beside-b : (c : tie.After-beside Inv-loop μ-loop Inv-loop2 μ-loop2) → c .beside .result < c .before .before .before .before .before .before .loop2 .j + 1
 beside-b c =
-    let d = c .before .before .before .before in
+    let d = c .before .before .before .before .before in
     let m = d .before .loop2 in
     rw (c .beside .ensures) (beside-in contends (fitted (d .before .before .before .loop .z) .threads) (m .j) (m .b) (m .inv .3))
 
 -- the application of thread j
-app-of : (c : tie.After-first Inv-loop μ-loop Inv-loop2 μ-loop2) → at (c .before .before .before .before .before .before .before .before .loop2 .z .threads) (c .before .before .before .before .before .before .before .before .loop2 .j) .app < 16
-app-of c = okay (c .before .before .before .before .before .before .before) .app-max
+app-of : (c : tie.After-first Inv-loop μ-loop Inv-loop2 μ-loop2) → at (c .before .before .before .before .before .before .before .before .before .loop2 .z .threads) (c .before .before .before .before .before .before .before .before .before .loop2 .j) .app < 16
+app-of c = okay (c .before .before .before .before .before .before .before .before) .app-max
 
 -- the beneficiary so far is a thread before j, or j stands in its place
-beside-f : (c : tie.After-beside2 Inv-loop μ-loop Inv-loop2 μ-loop2) → c .beside2 .result < c .before .before .before .before .before .before .before .before .before .loop2 .j + 1
+beside-f : (c : tie.After-beside2 Inv-loop μ-loop Inv-loop2 μ-loop2) → c .beside2 .result < c .before .before .before .before .before .before .before .before .before .before .loop2 .j + 1
 beside-f c =
-    let d = c .before .before .before .before .before .before .before .before in
+    let d = c .before .before .before .before .before .before .before .before .before in
     let m = d .before .loop2 in
     let a = at (m .z .threads) (m .j) .app in
     rw (c .beside2 .ensures) (beside-in (activeIn a) (fitted (d .before .before .before .loop .z) .threads) (m .j) (getD (m .best) a 0) (m .inv .4 a (app-of (c .before))))
@@ -248,35 +254,39 @@ loop2-again c =
     let y = c .before .before .before in
     let e = y .before in
     let k = e .before .before .before in
-    let t = k .before in
+    let h = k .before in
+    let t = h .before in
     let d = t .before .before .before in
     let m = d .before .loop2 in
     let xs = fitted (d .before .before .before .loop .z) .threads in
     let x = at (m .z .threads) (m .j) in
     let a = x .app in
-    let o = at (set (m .z .threads) (m .j) (t .fit-one .result)) (k .beside .result) in
-    let p = at (set (m .z .threads) (m .j) (t .fit-one .result)) (y .beside2 .result) in
     let own : a ≡ t .fit-one .result .app = sym (ap (λ (x : Thread). x .app) (t .fit-one .ensures) ∙ fit-app _ x) in (
       omega arith,
       length-set (m .best) _ _ ∙ m .inv .1,
       stored t,
-      rw (e .first .ensures, e .before .contends .ensures)
-          (first-more contends xs (m .j) (m .b) (m .inv .3) (t .fit-one .result) o (fitted-at t) (seen t _ (beside-b k) ∙ ap (at xs) (k .beside .ensures))),
+      rw (e .first .ensures)
+          (first-more contends xs (m .j) (m .b) (m .inv .3) (seen-ok t) _ (e .before .contends .ensures ∙ ap contends (fitted-at t)) _ _ (parts h) (dues h _ (beside-b k) ∙ ap (λ i. deadlineOf (at xs i)) (k .beside .ensures))),
       rw (c .first2 .ensures, c .before .is-active .ensures)
-          (best-more xs (m .j) (m .best) (m .inv .1) (t .fit-one .result) (fitted-at t) a own (app-of e) p (seen t _ (beside-f y) ∙ ap (at xs) (y .beside2 .ensures)) (m .inv .4)),
+          (best-more xs (m .j) (m .best) (m .inv .1) (t .fit-one .result) (fitted-at t) a own (app-of e) (seen-ok t) _ _ (parts h) (dues h _ (beside-f y) ∙ ap (λ i. deadlineOf (at xs i)) (y .beside2 .ensures)) (m .inv .4)),
+      length-set (m .due) _ _ ∙ m .inv .5,
+      dues h,
     )
 
-element-copy-out-o : tie.Need-element-copy-out-o Inv-loop μ-loop Inv-loop2 μ-loop2
-element-copy-out-o c = let d = c .before .before .before .before in omega (arith, beside-b c, within d, l-sound (all-left (d .before .before)) .few)
+array-copy-out-o : tie.Need-array-copy-out-o Inv-loop μ-loop Inv-loop2 μ-loop2
+array-copy-out-o c = let d = c .before .before .before .before .before in omega (arith, beside-b c, within d, l-sound (all-left (d .before .before)) .few)
 
 mul-o : tie.Need-mul-o Inv-loop μ-loop Inv-loop2 μ-loop2
-mul-o c = omega (arith, element-copy-out-o c)
+mul-o c = omega (arith, array-copy-out-o c)
 
 contends-requires : tie.Need-contends-requires Inv-loop μ-loop Inv-loop2 μ-loop2
 contends-requires c κs = search needs
 
 first-requires : tie.Need-first-requires Inv-loop μ-loop Inv-loop2 μ-loop2
-first-requires c κs = let d = c .before .before in (turn-ok (d .before), seen-ok (d .before) (d .beside .result) (beside-b d))
+first-requires c κs =
+    let k = c .before .before in
+    let h = k .before in
+    (parted-is (seen-ok (h .before) _ (omega arith)) (parts h), parted-is (seen-ok (h .before) _ (beside-b k)) (dues h _ (beside-b k)))
 
 mul-f : tie.Need-mul-f Inv-loop μ-loop Inv-loop2 μ-loop2
 mul-f c = omega (arith, app-of c)
@@ -287,17 +297,20 @@ array-read-f c = app-of c
 beside-requires-2 : tie.Need-beside-requires-2 Inv-loop μ-loop Inv-loop2 μ-loop2
 beside-requires-2 c κs = search needs
 
-element-copy-out-p : tie.Need-element-copy-out-p Inv-loop μ-loop Inv-loop2 μ-loop2
-element-copy-out-p c = let d = c .before .before .before .before .before .before .before .before in omega (arith, beside-f c, within d, l-sound (all-left (d .before .before)) .few)
+array-copy-out-p : tie.Need-array-copy-out-p Inv-loop μ-loop Inv-loop2 μ-loop2
+array-copy-out-p c = let d = c .before .before .before .before .before .before .before .before .before in omega (arith, beside-f c, within d, l-sound (all-left (d .before .before)) .few)
 
 mul-p : tie.Need-mul-p Inv-loop μ-loop Inv-loop2 μ-loop2
-mul-p c = omega (arith, element-copy-out-p c)
+mul-p c = omega (arith, array-copy-out-p c)
 
 is-active-requires : tie.Need-is-active-requires Inv-loop μ-loop Inv-loop2 μ-loop2
 is-active-requires c κs = search needs
 
 first-requires-2 : tie.Need-first-requires-2 Inv-loop μ-loop Inv-loop2 μ-loop2
-first-requires-2 c κs = let d = c .before .before in let t = d .before .before .before .before .before in (turn-ok t, seen-ok t (d .beside2 .result) (beside-f d))
+first-requires-2 c κs =
+    let y = c .before .before in
+    let h = y .before .before .before .before .before in
+    (parted-is (seen-ok (h .before) _ (omega arith)) (parts h), parted-is (seen-ok (h .before) _ (beside-f y)) (dues h _ (beside-f y)))
 
 mul-best : tie.Need-mul-best Inv-loop μ-loop Inv-loop2 μ-loop2
 mul-best c = omega (arith, app-of (c .before .before .before .before))
@@ -306,7 +319,7 @@ array-write-best : tie.Need-array-write-best Inv-loop μ-loop Inv-loop2 μ-loop2
 array-write-best c = app-of (c .before .before .before .before)
 
 add-j : tie.Need-add-j Inv-loop μ-loop Inv-loop2 μ-loop2
-add-j c = omega (arith, element-copy-out-x-2 (c .before .before .before .before .before .before .before .before .before .before .before))
+add-j c = omega (arith, element-copy-out-x-2 (c .before .before .before .before .before .before .before .before .before .before .before .before))
 
 loop2-less : tie.Need-loop2-less Inv-loop μ-loop Inv-loop2 μ-loop2
 loop2-less c = omega arith
@@ -368,16 +381,19 @@ tick-spec =
     fit-one-requires
     mul-t-2
     element-set-from-t-2
+    deadline-requires
+    mul-due
+    array-set-from-due
     beside-requires
     mul-o
-    element-copy-out-o
+    array-copy-out-o
     contends-requires
     first-requires
     mul-f
     array-read-f
     beside-requires-2
     mul-p
-    element-copy-out-p
+    array-copy-out-p
     is-active-requires
     first-requires-2
     mul-best
