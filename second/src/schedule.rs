@@ -195,10 +195,49 @@ impl Thread {
         self.share * i128::from(tick)
     }
 
-    /// Compares the deadlines of two active threads as fractions.
+    /// Compares the deadlines of two active threads, as document 01 says it and as Item 3 of document 02 does; they must agree.
     fn earlier(&self, other: &Thread) -> Ordering {
-        (self.amounts().e * other.share).cmp(&(other.amounts().e * self.share))
+        let (mine, others) = (self.amounts().e, other.amounts().e);
+        let order = as_fractions(mine, self.share, others, other.share);
+        let parts = whole_parts_first(mine, self.share, others, other.share);
+        assert!(
+            order == parts,
+            "{}/{} against {}/{}",
+            mine,
+            self.share,
+            others,
+            other.share
+        );
+        order
     }
+
+    /// Whether two deadlines are in one whole tick and not equal.
+    fn parted_by_remainder(&self, other: &Thread) -> bool {
+        let whole = |thread: &Thread| thread.amounts().e / thread.share;
+        whole(self) == whole(other) && self.earlier(other) != Ordering::Equal
+    }
+}
+
+/// "Deadlines of two threads are compared as fractions, E1 x u2 against E2 x u1."
+pub fn as_fractions(e1: i128, u1: i128, e2: i128, u2: i128) -> Ordering {
+    (e1 * u2).cmp(&(e2 * u1))
+}
+
+/// "Compare the whole parts first and multiply only the remainders when those are equal. Deadlines are not negative here."
+pub fn whole_parts_first(e1: i128, u1: i128, e2: i128, u2: i128) -> Ordering {
+    assert!(e1 >= 0 && e2 >= 0, "a deadline is negative");
+    let whole_parts = (e1 / u1).cmp(&(e2 / u2));
+    whole_parts.then_with(|| (e1 % u1 * u2).cmp(&(e2 % u2 * u1)))
+}
+
+/// The first thread with the earliest deadline of several.
+#[derive(Clone, Copy)]
+struct Earliest {
+    thread: usize,
+    /// Another has an equal deadline.
+    tie: bool,
+    /// Another's deadline is later by its remainder alone.
+    by_remainder: bool,
 }
 
 /// What one step answers when it is not refused.
@@ -391,16 +430,20 @@ impl Schedule {
         let mut receiver: Option<usize> = None;
         let mut passed_over = false;
         let mut tie = false;
+        let mut by_remainder = false;
+        let mut passed_by_remainder = false;
         for (j, other) in self.threads.iter().enumerate() {
             if j == giver || other.application != from.application || other.active.is_none() {
                 continue;
             }
             if other.earlier(from) == Ordering::Less {
                 passed_over = true;
+                passed_by_remainder |= other.parted_by_remainder(from);
                 debug_assert!(other.phase() == Phase::NonContending);
                 continue;
             }
             let order = receiver.map_or(Ordering::Less, |best| other.earlier(&self.threads[best]));
+            by_remainder |= receiver.map_or(false, |best| other.parted_by_remainder(&self.threads[best]));
             match order {
                 Ordering::Less => {
                     receiver = Some(j);
@@ -436,6 +479,12 @@ impl Schedule {
                     }
                     if tie {
                         hit(Branch::GiftTie);
+                    }
+                    if by_remainder {
+                        hit(Branch::GiftByRemainder);
+                    }
+                    if passed_by_remainder {
+                        hit(Branch::GiftPassedByRemainder);
                     }
                 }
                 let amounts = self.threads[j].active.as_mut().expect("a receiver is active");
@@ -540,21 +589,33 @@ impl Schedule {
         free
     }
 
-    /// The first thread with the earliest deadline among those wanted, and whether another ties with it.
-    fn earliest<F: Fn(&Thread) -> bool>(&self, wanted: F) -> Option<(usize, bool)> {
-        let mut found: Option<(usize, bool)> = None;
-        for (j, thread) in self.threads.iter().enumerate() {
-            if !wanted(thread) {
-                continue;
-            }
-            let order = found.map_or(Ordering::Less, |(best, _)| thread.earlier(&self.threads[best]));
+    /// The first thread with the earliest deadline among those wanted.
+    fn earliest<F: Fn(&Thread) -> bool>(&self, wanted: F) -> Option<Earliest> {
+        let mut found: Option<Earliest> = None;
+        for (j, thread) in self
+            .threads
+            .iter()
+            .enumerate()
+            .filter(|(_, thread)| wanted(thread))
+        {
+            let order = found.map_or(Ordering::Less, |best| thread.earlier(&self.threads[best.thread]));
             found = match order {
-                Ordering::Less => Some((j, false)),
-                Ordering::Equal => found.map(|(best, _)| (best, true)),
+                Ordering::Less => Some(Earliest {
+                    thread: j,
+                    tie: false,
+                    by_remainder: false,
+                }),
+                Ordering::Equal => found.map(|best| Earliest { tie: true, ..best }),
                 Ordering::Greater => found,
             };
         }
-        found
+        found.map(|best| Earliest {
+            by_remainder: self
+                .threads
+                .iter()
+                .any(|thread| wanted(thread) && thread.parted_by_remainder(&self.threads[best.thread])),
+            ..best
+        })
     }
 
     /// One tick: steps 2 (if no arrival brought it on), 4, 5 and 6; refused 13 at the clock's end.
@@ -572,9 +633,16 @@ impl Schedule {
                 self.idle();
                 Tick::Idle
             }
-            Some((chosen, tie)) => {
+            Some(Earliest {
+                thread: chosen,
+                tie,
+                by_remainder,
+            }) => {
                 if tie {
                     hit(Branch::ChoiceTie);
+                }
+                if by_remainder {
+                    hit(Branch::ChoiceByRemainder);
                 }
                 for j in fitted {
                     hit(if j == chosen {
@@ -646,7 +714,11 @@ impl Schedule {
             match first {
                 None if r > 0 => hit(Branch::OtherAllInactive),
                 None => {}
-                Some((j, tie)) => {
+                Some(Earliest {
+                    thread: j,
+                    tie,
+                    by_remainder,
+                }) => {
                     let thread = &mut self.threads[j];
                     if r > 0 {
                         hit(match thread.phase() {
@@ -655,6 +727,9 @@ impl Schedule {
                         });
                         if tie {
                             hit(Branch::FreeTie);
+                        }
+                        if by_remainder {
+                            hit(Branch::FreeByRemainder);
                         }
                     } else {
                         hit(Branch::OtherWithoutFree);

@@ -108,6 +108,11 @@ stored! {
          done 4 2; run 12";
     "completion-gift-passed-over", "the amount passes over an earlier deadline, which is non-contending, to a later one",
         "head 9 3; row 1 5 6; row 1 3 3; row 1 1 9; arr 0 2; arr 0 1; arr 0 0; done 1 1; done 2 0; run 8";
+    "completion-gift-remainder", "of the deadlines 132/5 and 104/4, both 26 in whole ticks, the lesser fraction receives the amount",
+        "head 17 4; row 0 6 12; row 3 1 18; row 0 5 10; row 0 4 16; arr 0 3; arr 1 3; arr 2 2; done 4 2; arr 4 2; arr 5 0; done 6 3; \
+         done 9 0; run 16";
+    "completion-gift-passed-over-remainder", "33/3 is earlier than the completing thread's 95/8 by the remainder alone: it gets nothing",
+        "head 18 3; row 0 8 4; row 0 7 4; row 0 3 6; arr 2 0; arr 2 1; done 3 0; arr 3 0; arr 5 2; done 8 2; done 9 0; run 14";
     "completion-gift-equal-deadline", "a thread with an equal deadline receives the amount",
         "head 12 2; row 0 6 8; row 0 6 2; arr 0 1; arr 8 0; done 20 0; run 24";
     "completion-gift-tie", "two threads could receive; the lower number does",
@@ -152,6 +157,12 @@ stored! {
          arr 0 3; arr 0 2; arr 0 1; arr 0 0; run 9";
     "choice-fractions", "at 2 the deadlines 27/4 and 19/3 are both 6 in whole ticks: the lesser fraction has the tick",
         "head 7 2; row 0 4 5; row 1 3 3; arr 0 0; done 1 0; arr 1 0; arr 1 1; done 2 1; arr 2 1; run 8";
+    "choice-remainder-higher", "at 5 the deadlines are 63/4 and 93/6, 15 and three quarters and 15 and a half: the higher number has the tick",
+        "head 15 3; row 0 4 12; row 3 6 4; row 0 2 24; arr 0 2; arr 0 0; done 1 0; arr 1 1; done 2 1; arr 2 1; arr 3 0; run 9";
+    "choice-remainder-lower", "the same with the numbers exchanged: the lower number has the tick",
+        "head 15 3; row 3 6 4; row 0 4 12; row 0 2 24; arr 0 2; arr 0 1; done 1 1; arr 1 0; done 2 0; arr 2 0; arr 3 1; run 9";
+    "choice-remainder-tie", "at 6 the deadlines 124/12 and 62/6 are both 10 and a third: the lower number has the tick",
+        "head 19 3; row 2 12 2; row 0 1 23; row 0 6 4; arr 0 1; arr 0 2; arr 1 2; done 2 2; arr 2 0; done 6 0; arr 6 0; run 10";
     "choice-idle", "no thread is active: idle ticks", "head 9 1; row 0 9 4; run 7";
     "choice-idle-forgets", "an idle tick makes a non-contending thread inactive, which arrives with W = u x t",
         "head 3 1; row 2 1 3; arr 0 0; done 1 0; arr 2 0; run 4";
@@ -165,6 +176,9 @@ stored! {
         "head 7 3; row 0 4 8; row 3 1 8; row 0 2 4; arr 6 2; arr 6 1; done 7 2; arr 9 2; run 14";
     "charge-beneficiary-earliest", "of a contending thread and an earlier non-contending one the latter gets the free share",
         "head 12 4; row 0 2 6; row 0 3 20; row 0 1 12; row 1 6 10; arr 0 0; arr 0 1; arr 0 3; done 1 0; run 14";
+    "charge-beneficiary-remainder", "at 4 the deadlines 62/4 and 154/10 are both 15 in whole ticks: the lesser fraction gets the free share",
+        "head 21 4; row 0 4 12; row 3 2 12; row 0 10 10; row 0 4 31; arr 0 0; arr 1 0; done 2 0; arr 2 2; arr 2 1; arr 3 2; done 4 2; \
+         arr 7 0; run 12";
     "charge-beneficiary-tie", "two threads tie for the free share; the lower number gets it",
         "head 8 4; row 0 3 3; row 0 2 0; row 1 2 7; row 0 1 9; arr 0 0; arr 6 2; arr 6 3; run 14";
     "charge-other-full", "another application without free share loses nothing", "head 7 2; row 3 1 8; row 0 2 4; arr 6 1; arr 6 0; run 12";

@@ -4,7 +4,10 @@ use crate::calls::calls;
 use crate::cover;
 use crate::listing::listing;
 use crate::random::{self, Dice, Size};
-use crate::schedule::{Amounts, Phase, Refusal, Row, Schedule, Tick, CLOCK_END, IDLE_ENTRY, JOBS_MOST};
+use crate::schedule::{
+    as_fractions, whole_parts_first, Amounts, Phase, Refusal, Row, Schedule, Tick, CLOCK_END, IDLE_ENTRY,
+    JOBS_MOST,
+};
 use crate::stored::{self, STORED};
 use crate::trace::{encode, Item};
 use crate::wide;
@@ -506,6 +509,47 @@ fn every_stretch_is_accounted_for() {
         ends,
         losses
     );
+}
+
+#[test]
+fn whole_parts_first_is_the_order_of_fractions() {
+    let small: Vec<(i128, i128)> = (1..=12).flat_map(|u| (0..=60).map(move |e| (e, u))).collect();
+    let far = |u: i128| {
+        [
+            0,
+            1,
+            u - 1,
+            u,
+            2 * u - 1,
+            (1 << 43) / u * u - 1,
+            (1 << 43) / u * u,
+            (1 << 44) - 1,
+        ]
+        .map(|e| (e, u))
+    };
+    let great: Vec<(i128, i128)> = [1, 2, 3, 2047, 2048, 4095, 4096]
+        .into_iter()
+        .flat_map(far)
+        .collect();
+    let mut told = [0; 3];
+    for pairs in [small, great] {
+        for (e1, u1) in &pairs {
+            for (e2, u2) in &pairs {
+                let order = as_fractions(*e1, *u1, *e2, *u2);
+                assert_eq!(
+                    order,
+                    whole_parts_first(*e1, *u1, *e2, *u2),
+                    "{}/{} {}/{}",
+                    e1,
+                    u1,
+                    e2,
+                    u2
+                );
+                told[usize::from(e1 / u1 == e2 / u2) * (1 + usize::from(order.is_eq()))] += 1;
+            }
+        }
+    }
+    assert!(told.iter().all(|count| *count > 1000), "{:?}", told);
 }
 
 #[test]

@@ -4,3 +4,4 @@ pub mod Marked
 pub mod Witness
 pub mod Telling
 pub mod Stretching
+pub mod Remainders

@@ -1,5 +1,6 @@
 pub mod Demand1
 pub mod Demand3
+pub mod Item3
 pub mod Restated
 pub mod Skipped
 pub mod Refused
@@ -35,6 +36,7 @@ pub mod Counted
 pub mod Proved
 pub mod Sound
 pub mod Remainders
+pub mod Parting
 pub mod Tables
 pub mod Taken
 pub mod Idle

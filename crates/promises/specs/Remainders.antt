@@ -1,92 +1,105 @@
--- Document 02, Item 3: deadlines in two parts, whole ticks and a remainder. "Compare the whole parts first and multiply only the
--- remainders when those are equal. Deadlines are not negative here. No answer changes."
-use mathlib.Core.Path.{_≡_, refl, sym, subst}
+-- Item 3 holds, and what the code's comparison rests on.
+use mathlib.Core.Path.{_≡_, refl, sym, ap, _∙_, subst}
 use mathlib.Core.Bool.{Bool, true, false, cond, _&&_}
-use Prim.Native.Nat.{ℕ, _+_, _*_, _/_, _%_, _≤_, _<_}
+use mathlib.Core.List.{[], _∷_}
+use Prim.Native.Nat.{ℕ, _+_, _*_, _/_, _≤_, _<_}
 use native.Mathlib.Nat.{mod-lt}
 use native.Mathlib.Omega.{arith}
-use lib.Dec.{ltb}
+use lib.Dec.{lit<}
 use lib.IntN.{pos, _-ℤ_}
 use lib.Signed.{ltZ}
-use Rattle.integers.specs.Parts.{up, dn, as-nat}
-use Rattle.integers.specs.Fractions.{joined, before, order, apart, remainder-small, more-whole, more-remainder}
-use Rattle.rules.specs.Limits.{maxQ}
-use Rattle.rules.specs.Threads.{Thread, Order, Earlier, Equal, Later, contends, compare, isEarlier, sooner}
+use Rattle.integers.specs.Parts.{up, as-nat}
+use Rattle.integers.specs.Fractions.{order, apart, remainder-small, more-whole, more-remainder}
+use Rattle.rules.specs.Limits.{maxQ, usualPeriod}
+use Rattle.rules.specs.Threads.{Thread, State, at, contends, compare, isEarlier, sooner}
+use Rattle.rules.specs.Table.{opening}
 use Rattle.rules.specs.Fitting.{postpone, fit}
-use Rattle.promises.specs.Sound.{RowOk}
-pub use Rattle.quantities.specs.declared.Deadline.{Deadline}
+use Rattle.rules.specs.Calls.{Given, arrive, after}
+use Rattle.promises.specs.Sound.{RowOk, given-sound}
+use Rattle.promises.specs.Item3.{Deadline, deadlineOf, compareParts, byParts, later, NotNegative, FitsByPeriod, Item3, Promised}
+use Rattle.promises.specs.Witness.{halves, Computed}
 
--- the two parts of a thread's deadline
-abbrev pub deadlineOf : Thread → Deadline
-deadlineOf x = record { whole = up (x .e .0) / x .share; remainder = up (x .e .0) % x .share; share = x .share }
-
--- E again
-abbrev pub fullOf : Deadline → ℕ
-fullOf d = joined (d .whole) (d .remainder) (d .share)
-
--- what the comparison asks of a deadline in two parts
+-- what the comparison asks of a deadline
 pub record Parted (d : Deadline) : Type 0 where
   pub below : d .remainder < d .share
   pub share-max : d .share ≤ maxQ
 
--- "Deadlines of two threads are compared as fractions, E1 × u2 against E2 × u1."
-abbrev pub compareParts : Deadline → Deadline → Order
-compareParts d o =
-    cond (ltb (fullOf d * o .share) (fullOf o * d .share)) Earlier
-    (cond (ltb (fullOf o * d .share) (fullOf d * o .share)) Later Equal)
+-- every thread within bounds has such a deadline
+pub parted : {x : Thread} → RowOk x → Parted (deadlineOf x)
+parted {x} k = record { below = mod-lt (up (x .e .0)) (k .share-min); share-max = k .share-max }
 
--- the whole parts are compared first, and the remainders where those are equal
-abbrev pub soonerParts : Deadline → Deadline → Bool
-soonerParts d o = before (d .whole) (d .remainder) (d .share) (o .whole) (o .remainder) (o .share)
+pub parted-is : {x : Thread} {d : Deadline} → RowOk x → d ≡ deadlineOf x → Parted d
+parted-is k e = subst Parted (sym e) (parted k)
 
-pub by-parts : {d o : Deadline} → Parted d → Parted o → compareParts d o ≡ cond (soonerParts d o) Earlier (cond (soonerParts o d) Later Equal)
-by-parts {d} {o} p q =
+-- ---- the comparison
+-- the order by whole part and remainder is the order of the fractions
+pub parts-order : {d o : Deadline} → Parted d → Parted o → compareParts d o ≡ byParts d o
+parts-order {d} {o} p q =
     rw (
       order (d .whole) (d .remainder) (d .share) (o .whole) (o .remainder) (o .share) (p .below) (q .below),
       order (o .whole) (o .remainder) (o .share) (d .whole) (d .remainder) (d .share) (q .below) (p .below),
     )
 
--- every thread of a given state has such a deadline
-pub parted : {x : Thread} → RowOk x → Parted (deadlineOf x)
-parted {x} k = record { below = mod-lt (up (x .e .0)) (k .share-min); share-max = k .share-max }
-
--- "No answer changes": two deadlines in parts stand to each other as the threads' do
-pub parts-compare : {x y : Thread} → RowOk x → RowOk y → compareParts (deadlineOf x) (deadlineOf y) ≡ compare x y
-parts-compare {x} {y} f g =
-    rw (
-      apart (up (x .e .0)) (x .share),
-      apart (up (y .e .0)) (y .share),
-      as-nat (x .e .0) (omega (arith, f .e-whole)),
-      as-nat (y .e .0) (omega (arith, g .e-whole)),
-    )
-
--- .. so where d and o are the deadlines of x and y
-pub parted-is : {x : Thread} {d : Deadline} → RowOk x → d ≡ deadlineOf x → Parted d
-parted-is k e = subst Parted (sym e) (parted k)
-
-pub parts-sooner : {x y : Thread} {d o : Deadline} → RowOk x → RowOk y → d ≡ deadlineOf x → o ≡ deadlineOf y → isEarlier (compareParts d o) ≡ sooner x y
-parts-sooner f g d o = rw (d, o, parts-compare f g)
-
 -- each product of a remainder with the other's share is below 4,096², and so fits 32 bits
 pub products-small : {d o : Deadline} → Parted d → Parted o → d .remainder * o .share < maxQ * maxQ
 products-small {d} {o} p q = remainder-small (d .remainder) (d .share) (o .share) maxQ (p .below) (p .share-max) (q .share-max)
 
--- p ticks later
-abbrev pub later : ℕ → Deadline → Deadline
-later p d = record { whole = d .whole + p; remainder = d .remainder; share = d .share }
+-- a deadline is its two parts
+number : {x : Thread} → RowOk x → x .e .0 ≡ pos (up (x .e .0))
+number {x} k = as-nat (x .e .0) (omega (arith, k .e-whole))
 
+not-negative : {x : Thread} → RowOk x → NotNegative x
+not-negative {x} k = number k ∙ ap pos (sym (apart (up (x .e .0)) (x .share)))
+
+-- two deadlines in parts stand to each other as the threads' do
+pub parts-compare : {x y : Thread} → RowOk x → RowOk y → compareParts (deadlineOf x) (deadlineOf y) ≡ compare x y
+parts-compare {x} {y} f g = rw (apart (up (x .e .0)) (x .share), apart (up (y .e .0)) (y .share), number f, number g)
+
+-- .. so where d and o are the deadlines of x and y
+pub parts-sooner : {x y : Thread} {d o : Deadline} → RowOk x → RowOk y → d ≡ deadlineOf x → o ≡ deadlineOf y
+    → isEarlier (compareParts d o) ≡ sooner x y
+parts-sooner f g d o = rw (d, o, parts-compare f g)
+
+-- ---- fitting
 -- u × P more of E is P whole ticks more and the same remainder
-pub postponed : {x : Thread} → RowOk x → deadlineOf (postpone x) ≡ later (x .period) (deadlineOf x)
-postponed {x} k = rw (as-nat (x .e .0) (omega (arith, k .e-whole)))
-    (λ i. record { whole = more-whole (up (x .e .0)) (x .share) (x .period) (k .share-min) i; remainder = more-remainder (up (x .e .0)) (x .share) (x .period) i; share = x .share })
+postponed : {x : Thread} → RowOk x → deadlineOf (postpone x) ≡ later (x .period) (deadlineOf x)
+postponed {x} k = rw (number k) (λ i. record { whole = wholes i; remainder = more-remainder n (x .share) (x .period) i; share = x .share })
+  where
+    n : ℕ
+    n = up (x .e .0)
 
--- so fitting adds exactly P to the whole part, where it adds anything, and leaves the remainder
-pub fit-parts : {x : Thread} → RowOk x → (room : ℕ)
-    → deadlineOf (fit room x) ≡ cond (contends x && ltZ (x .e .0 -ℤ x .w .0) (pos room)) (later (x .period) (deadlineOf x)) (deadlineOf x)
+    wholes : (n + x .share * x .period) / x .share ≡ n / x .share + x .period
+    wholes = more-whole n (x .share) (x .period) (k .share-min)
+
+pub fits-by-period : {x : Thread} → RowOk x → FitsByPeriod x
 unfolding fit
-fit-parts {x} k room = by (contends x) (ltZ (x .e .0 -ℤ x .w .0) (pos room))
+fits-by-period {x} k room = by (contends x) (ltZ (x .e .0 -ℤ x .w .0) (pos room))
   where
     by : (c t : Bool) → deadlineOf (cond c (cond t (postpone x) x) x) ≡ cond (c && t) (later (x .period) (deadlineOf x)) (deadlineOf x)
     by true true = postponed k
     by true false = refl
     by false t = refl
+
+-- ---- of every given state
+pub item-3 : Promised
+item-3 s g i j h k =
+    let x = given-sound g .ok i h in
+    let y = given-sound g .ok j k in
+    record {
+      not-negative = not-negative x;
+      told = sym (parts-compare x y) ∙ parts-order (parted x) (parted y);
+      narrow = products-small (parted x) (parted y);
+      fits = fits-by-period x;
+    }
+
+-- .. of which there are some: two threads that contend, by calls from their table on
+abbrev two : State
+two = after (opening usualPeriod halves .state) (arrive 0 ∷ arrive 1 ∷ [])
+
+two-given : Given two
+two-given = record { usual = usualPeriod; table = halves; calls = arrive 0 ∷ arrive 1 ∷ []; came = refl }
+
+pub item-3-met :
+    let x = at (two .threads) 0 in let y = at (two .threads) 1 in Item3 x y × (contends x ≡ true) × (contends y ≡ true)
+unfolding Computed opening after
+item-3-met = (item-3 two two-given 0 1 (lit< tt) (lit< tt), refl, refl)

@@ -47,7 +47,7 @@ steady-sized {s} g i h =
 pub given-sized : {s : State} → Given s → (i : ℕ) → i < s .count → Sized (s .q) (s .clock .0) (at (s .threads) i)
 given-sized g = steady-sized (steady (given-good g))
 
--- a deadline times another's share, as they are compared
+-- a deadline times another's share, as the rules compare them
 pub product-bits : {q t v : ℕ} {x : Thread} → Sized q t x → v ≤ 4096 → up (x .e .0) * v < 2 ^ 56
 product-bits {q} {t} {v} {x} z h =
     let e : up (x .e .0) ≤ 2 ^ 44 - 1 = omega (arith, z .e-bits) in

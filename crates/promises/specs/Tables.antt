@@ -21,7 +21,8 @@ use Rattle.rules.specs.Charge.{beneficiary, benefits}
 use Rattle.promises.specs.Cases.{by-test, and-false}
 use Rattle.promises.specs.Deadlines.{earliest-in}
 use Rattle.promises.specs.Sound.{Sound, RowOk}
-use Rattle.promises.specs.Remainders.{Deadline, deadlineOf, compareParts, parts-sooner}
+use Rattle.promises.specs.Item3.{Deadline, deadlineOf, compareParts}
+use Rattle.promises.specs.Remainders.{parts-sooner}
 
 -- ---- every thread changed by f in turn; z is s with the first i of them changed
 module _ (f : Thread → Thread) (s : State) where
@@ -34,12 +35,6 @@ module _ (f : Thread → Thread) (s : State) where
   -- the thread whose turn it is, is as it was
   pub change-next : (i : ℕ) {z : State} → Changed i z → at (z .threads) i ≡ at (s .threads) i
   change-next i e = ap (λ (z : State). at (z .threads) i) e ∙ map-at i f (s .threads) i blank (le-refl i)
-
-  -- .. and one that has had its turn is as it will be
-  pub change-had : Sound s → (i k : ℕ) → i ≤ s .count → k < i → {z : State} → Changed i z → at (z .threads) k ≡ at (mapTo (s .count) f (s .threads)) k
-  change-had g i k l h e = ap (λ (z : State). at (z .threads) k) e
-      ∙ map-has i f (s .threads) k blank h (omega (arith, g .few, g .long))
-      ∙ sym (map-has (s .count) f (s .threads) k blank (omega arith) (omega (arith, g .few, g .long)))
 
   -- the thread whose turn it is, once it is changed, is as it will be
   pub change-turn : Sound s → (i : ℕ) → i < s .count → {z : State} → Changed i z → (x : Thread) → x ≡ f (at (z .threads) i) → x ≡ at (mapTo (s .count) f (s .threads)) i

@@ -27,12 +27,12 @@ abbrev done : ℕ → ℕ → ℕ → Completed
 done arrival length completion = record { arrival = arrival; length = length; completion = completion }
 
 -- all the rules to compute with
-unfoldable Computed : Type 0
+unfoldable pub Computed : Type 0
 unfolding sumBy mapTo freeShare earliest loseAt headAnswer rowAnswer sharesTo rowsAnswer tableAnswer openedTo start gives completing afterCompletion completion leave gone arrivals.arrive arrival headOnly dropped fit fitted idled benefits charged moved stepped stateAfter rowAfter ran ticks turns jobsAfter doneBy moments grants
 Computed = Unit {0}
 
 -- ---- two threads, each with half of the processor: 0 has the ticks 0 and 2, and 1 the ticks 1 and 3
-abbrev halves : Table
+abbrev pub halves : Table
 halves = record { q = 2; threads = 2; rows = record { app = 0; share = 1; period = 2 } ∷ record { app = 1; share = 1; period = 3 } ∷ [] }
 
 -- a run of three ticks, a run whose row is too short, a completion by who did not have the tick just ended, and a second job dropped

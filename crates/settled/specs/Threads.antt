@@ -1,21 +1,24 @@
 -- "Any two outcomes it allows are proved to be one", and what it asks, of the functions of `threads`: no more than that threads and amounts
 -- are within bounds. `given-sound` of the promises has `Sound` of every given state, and with it `RowOk` of each of its threads.
 -- κs: lifetimes; a: what is passed; r: the answer; s: what is lent, at the end, or in `-asks` a state.
-use mathlib.Core.Path.{_≡_}
+use mathlib.Core.Path.{_≡_, _∙_}
 use Prim.Native.Nat.{ℕ, _≤_}
 use native.Mathlib.Omega.{arith}
 use mir.Syntax.{w64}
 use Rattle.quantities.specs.declared.Amount.{Amount}
 use Rattle.integers.specs.Parts.{Small, small-add, small-sub, small-times}
 use Rattle.rules.specs.Limits.{maxQ}
-use Rattle.rules.specs.Threads.{Thread, State}
+use Rattle.rules.specs.Threads.{Thread, State, compare}
 use Rattle.promises.specs.Sound.{Sound, RowOk}
+use Rattle.promises.specs.Item3.{deadlineOf}
+use Rattle.promises.specs.Remainders.{parted, parts-compare}
 use Rattle.settled.specs.One.{one}
 use Rattle.threads.proofs.amounts.add.Reads as add
 use Rattle.threads.proofs.amounts.sub.Reads as sub
 use Rattle.threads.proofs.amounts.less.Reads as less
 use Rattle.threads.proofs.amounts.amount_of.Reads as amount_of
 use Rattle.threads.proofs.amounts.times.Reads as times
+use Rattle.threads.proofs.amounts.count_of.Reads as count_of
 use Rattle.threads.proofs.amounts.scaled.Reads as scaled
 use Rattle.threads.proofs.thread.inactive.Reads as inactive
 use Rattle.threads.proofs.thread.contends.Reads as contends
@@ -25,6 +28,7 @@ use Rattle.threads.proofs.thread.at_rest.Reads as at_rest
 use Rattle.threads.proofs.thread.left.Reads as left
 use Rattle.threads.proofs.thread.left_unless.Reads as left_unless
 use Rattle.threads.proofs.thread.fit_one.Reads as fit_one
+use Rattle.threads.proofs.thread.deadline.Reads as deadline
 use Rattle.threads.proofs.thread.compared.Reads as compared
 use Rattle.threads.proofs.thread.earlier.Reads as earlier
 use Rattle.threads.proofs.thread.beside.Reads as beside
@@ -63,6 +67,12 @@ times-one κs a r r' s s' p q = one p q
 
 pub times-asks : (κs : _) (x : Amount) (u : ℕ) → Small (x .0) → u ≤ maxQ → times.Asked κs (x, (u, tt))
 times-asks κs x u f g = small-times w64 (x .0) u (omega arith) f g
+
+pub count-of-one : (κs : _) (a : _) (r r' : _) (s s' : _) → count_of.Learnt κs a r s → count_of.Learnt κs a r' s' → r ≡ r'
+count-of-one κs a r r' s s' p q = one p q
+
+pub count-of-asks : (κs : _) (x : Thread) → RowOk x → count_of.Asked κs (x .e, tt)
+count-of-asks κs x g = g .e-whole
 
 pub scaled-one : (κs : _) (a : _) (r r' : _) (s s' : _) → scaled.Learnt κs a r s → scaled.Learnt κs a r' s' → r ≡ r'
 scaled-one κs a r r' s s' p q = one p q
@@ -119,17 +129,27 @@ fit-one-one κs a r r' s s' p q = one p q
 pub fit-one-asks : (κs : _) (x : Thread) (n : _) → RowOk x → fit_one.Asked κs (x, (n, tt))
 fit-one-asks κs x n g = g
 
+pub deadline-one : (κs : _) (a : _) (r r' : _) (s s' : _) → deadline.Learnt κs a r s → deadline.Learnt κs a r' s' → r ≡ r'
+deadline-one κs a r r' s s' p q = one p q
+
+pub deadline-asks : (κs : _) (x : Thread) → RowOk x → deadline.Asked κs (x, tt)
+deadline-asks κs x g = g
+
 pub compared-one : (κs : _) (a : _) (r r' : _) (s s' : _) → compared.Learnt κs a r s → compared.Learnt κs a r' s' → r ≡ r'
 compared-one κs a r r' s s' p q = one p q
 
-pub compared-asks : (κs : _) (x : Thread) (y : Thread) → RowOk x → RowOk y → compared.Asked κs (x, (y, tt))
-compared-asks κs x y f g = (f, g)
+pub compared-asks : (κs : _) (x : Thread) (y : Thread) → RowOk x → RowOk y → compared.Asked κs (deadlineOf x, (deadlineOf y, tt))
+compared-asks κs x y f g = (parted f, parted g)
+
+-- document 02, Item 3, "No answer changes": of two threads' deadlines it tells what the rules' comparison of the threads does
+pub compared-is : (κs : _) (x : Thread) (y : Thread) (r s : _) → RowOk x → RowOk y → compared.Learnt κs (deadlineOf x, (deadlineOf y, tt)) r s → r ≡ compare x y
+compared-is κs x y r s f g p = p ∙ parts-compare f g
 
 pub earlier-one : (κs : _) (a : _) (r r' : _) (s s' : _) → earlier.Learnt κs a r s → earlier.Learnt κs a r' s' → r ≡ r'
 earlier-one κs a r r' s s' p q = one p q
 
-pub earlier-asks : (κs : _) (x : Thread) (y : Thread) → RowOk x → RowOk y → earlier.Asked κs (x, (y, tt))
-earlier-asks κs x y f g = (f, g)
+pub earlier-asks : (κs : _) (x : Thread) (y : Thread) → RowOk x → RowOk y → earlier.Asked κs (deadlineOf x, (deadlineOf y, tt))
+earlier-asks κs x y f g = (parted f, parted g)
 
 pub beside-one : (κs : _) (a : _) (r r' : _) (s s' : _) → beside.Learnt κs a r s → beside.Learnt κs a r' s' → r ≡ r'
 beside-one κs a r r' s s' p q = one p q
@@ -140,8 +160,8 @@ beside-asks κs a = tt
 pub first-one : (κs : _) (a : _) (r r' : _) (s s' : _) → first.Learnt κs a r s → first.Learnt κs a r' s' → r ≡ r'
 first-one κs a r r' s s' p q = one p q
 
-pub first-asks : (κs : _) (b : _) (x : Thread) (y : Thread) (i : _) (j : _) → RowOk x → RowOk y → first.Asked κs (b, (x, (y, (i, (j, tt)))))
-first-asks κs b x y i j f g = (f, g)
+pub first-asks : (κs : _) (b : _) (x : Thread) (y : Thread) (i : _) (j : _) → RowOk x → RowOk y → first.Asked κs (b, (deadlineOf x, (deadlineOf y, (i, (j, tt)))))
+first-asks κs b x y i j f g = (parted f, parted g)
 
 pub lighter-one : (κs : _) (a : _) (r r' : _) (s s' : _) → lighter.Learnt κs a r s → lighter.Learnt κs a r' s' → r ≡ r'
 lighter-one κs a r r' s s' p q = one p q

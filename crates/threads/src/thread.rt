@@ -8,7 +8,8 @@ ghost use Rattle.rules.specs.Threads.{isInactive, isContending, active, idle, i
 ghost use Rattle.rules.specs.Leaving.{leave};
 ghost use Rattle.rules.specs.Fitting.{fit};
 ghost use Rattle.promises.specs.Sound.{RowOk};
-ghost use Rattle.promises.specs.Remainders.{deadlineOf, Parted, compareParts};
+ghost use Rattle.promises.specs.Item3.{deadlineOf, compareParts};
+ghost use Rattle.promises.specs.Remainders.{Parted};
 ghost use Rattle.promises.specs.Tables.{besideOf, firstOf};
 use crate::amounts::add;
 use crate::amounts::amount_of;
@@ -150,8 +151,10 @@ pub fn compared(d: Deadline, o: Deadline) -> Order
     if o.whole < d.whole {
         return Order::Later;
     }
-    let p = d.remainder * o.share;
-    let q = o.remainder * d.share;
+    let u = d.share;
+    let v = o.share;
+    let p = d.remainder * v;
+    let q = o.remainder * u;
     if p < q {
         return Order::Earlier;
     }

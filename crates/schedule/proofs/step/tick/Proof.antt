@@ -12,7 +12,8 @@ use Rattle.promises.specs.Keep.{fit-app}
 use Rattle.promises.specs.Ready.{gone-beside, gone-good}
 use Rattle.promises.specs.Always.{given-good}
 use Rattle.promises.specs.Sound.{RowOk, Sound, sound, given-sound, free-le}
-use Rattle.promises.specs.Remainders.{deadlineOf, parted-is}
+use Rattle.promises.specs.Item3.{deadlineOf}
+use Rattle.promises.specs.Remainders.{parted-is}
 use Rattle.promises.specs.Tables.{Changed, change-none, change-next, change-turn, change-more, leaves, gone-is, Table16, Dues, due-more, beside-in, first-more, free-own, free-more, best-more}
 use Rattle.promises.specs.Taken.{Left, left-all, l-sound, l-count, l-q, fit-sound, Chose, fit-all, best-all, z-steady, z-time, z-free, b-in, is-idle, is-grant}
 use borrow.Author.Needs.{needs}

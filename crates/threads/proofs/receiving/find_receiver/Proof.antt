@@ -10,7 +10,8 @@ use Rattle.rules.specs.Limits.{maxThreads, nobody}
 use Rattle.rules.specs.Threads.{at, isEarlier, sooner, earliest, closer}
 use Rattle.rules.specs.Completion.{takes}
 use Rattle.promises.specs.Sound.{RowOk}
-use Rattle.promises.specs.Remainders.{Deadline, deadlineOf, compareParts, parted-is, parts-sooner}
+use Rattle.promises.specs.Item3.{Deadline, deadlineOf, compareParts}
+use Rattle.promises.specs.Remainders.{parted-is, parts-sooner}
 use borrow.Author.Needs.{needs}
 use Rattle.threads.proofs.receiving.find_receiver.Statement.{statement}
 use Rattle.threads.proofs.receiving.find_receiver.Tie as tie
