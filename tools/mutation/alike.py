@@ -30,9 +30,9 @@ ALIKE = {
     "completion-pulls-back": [(EVENTS, "    if less(t.e, e) {\n        u.e = e;\n    }\n", "    u.e = e;\n")],
     "completion-keeps-deadline": [(EVENTS, "        u.e = e;\n", "        u.e = t.e;\n")],
     "stays-at-equality": [(EVENTS, "if less(due, t.w) {", "if !less(t.w, due) {")],
-    "receiver-earlier-too": [(RECEIVING, "    !earlier(y, x)\n", "    true\n")],
-    "receiver-only-earlier": [(RECEIVING, "    !earlier(y, x)\n", "    earlier(y, x)\n")],
-    "receiver-strictly-later": [(RECEIVING, "    !earlier(y, x)\n", "    earlier(x, y)\n")],
+    "receiver-earlier-too": [(RECEIVING, "    !earlier(deadline(y), deadline(x))\n", "    true\n")],
+    "receiver-only-earlier": [(RECEIVING, "    !earlier(deadline(y), deadline(x))\n", "    earlier(deadline(y), deadline(x))\n")],
+    "receiver-strictly-later": [(RECEIVING, "    !earlier(deadline(y), deadline(x))\n", "    earlier(deadline(x), deadline(y))\n")],
     "receiver-contending": [
         (RECEIVING, "use crate::thread::earlier;", "use crate::thread::contends;\nuse crate::thread::earlier;"),
         (RECEIVING, "    if inactive(y) {", "    if !contends(y) {"),
@@ -90,21 +90,21 @@ ALIKE = {
     "fitting-non-contending": [(THREAD, "    if contends(t) {\n        let e", "    if is_active(t) {\n        let e")],
     # ---- step 5, choice
     "tie-to-highest": [
-        (THREAD, "        if earlier(t, o) {", "        if !earlier(o, t) {"),
-        (RECEIVING, "                if earlier(t, o) {", "                if !earlier(o, t) {"),
+        (THREAD, "        if earlier(d, o) {", "        if !earlier(o, d) {"),
+        (RECEIVING, "                if earlier(deadline(t), deadline(o)) {", "                if !earlier(deadline(o), deadline(t)) {"),
     ],
     "deadlines-rounded-down": [
-        (THREAD, "let p = times(t.e, o.share);", "let p = Amount(t.e.0 / (t.share as i64));"),
-        (THREAD, "let q = times(o.e, t.share);", "let q = Amount(o.e.0 / (o.share as i64));"),
+        (THREAD, "    if p < q {", "    if p < p {"),
+        (THREAD, "    if q < p {", "    if q < q {"),
     ],
     "deadlines-rounded-up": [
-        (THREAD, "let p = times(t.e, o.share);", "let p = Amount((t.e.0 + (t.share as i64) - 1) / (t.share as i64));"),
-        (THREAD, "let q = times(o.e, t.share);", "let q = Amount((o.e.0 + (o.share as i64) - 1) / (o.share as i64));"),
+        (THREAD, "whole: e / u,", "whole: (e + u - 1) / u,"),
+        (THREAD, "remainder: (e % u) as u32,", "remainder: 0,"),
     ],
     "deadlines-not-scaled": [
-        (THREAD, "let p = times(t.e, o.share);", "let p = t.e;"), (THREAD, "let q = times(o.e, t.share);", "let q = o.e;"),
+        (THREAD, "whole: e / u,", "whole: e,"), (THREAD, "remainder: (e % u) as u32,", "remainder: 0,"),
     ],
-    "choice-of-active": [(STEP, "b = first(contends(t), t, o, b, j);", "b = first(is_active(t), t, o, b, j);")],
+    "choice-of-active": [(STEP, "b = first(contends(t), d, o, b, j);", "b = first(is_active(t), d, o, b, j);")],
     "choice-always-first": [(STEP, CHOICE, "    charge(z, 0, free, best)\n")],
     "choice-always-idle": [(STEP, CHOICE, "    idle_tick(z)\n")],
     "idle-leaves-threads": [(PASSES, "z.threads[i] = at_rest(t);", "z.threads[i] = t;")],
@@ -113,7 +113,7 @@ ALIKE = {
     "charge-share": [(PASSES, "let room = z.q - free[own];", "let room = t.share;")],
     "own-application-benefits": [(PASSES, "if a != own {", "if a != Table::APPS {")],
     "nobody-benefits": [(PASSES, "if a != own {", "if a == Table::APPS {")],
-    "beneficiary-contending": [(STEP, "best[a] = first(is_active(t), t, p, f, j);", "best[a] = first(contends(t), t, p, f, j);")],
+    "beneficiary-contending": [(STEP, "best[a] = first(is_active(t), d, p, f, j);", "best[a] = first(contends(t), d, p, f, j);")],
     "free-share-of-all": [
         (STEP, "        let a = t.app as usize;\n        let r = free[a];\n        free[a] = r + spare(t);\n",
          "        let mut a: usize = 0;\n        while a < Table::APPS {\n            let r = free[a];\n            free[a] = r + spare(t);\n            a += 1;\n        }\n"),
