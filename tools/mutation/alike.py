@@ -90,7 +90,7 @@ ALIKE = {
     "fitting-non-contending": [(THREAD, "    if contends(t) {\n        let e", "    if is_active(t) {\n        let e")],
     # ---- step 5, choice
     "tie-to-highest": [
-        (THREAD, "        if earlier(d, o) {", "        if !earlier(o, d) {"),
+        (THREAD, "    earlier(d, o)\n", "    !earlier(o, d)\n"),
         (RECEIVING, "                if earlier(deadline(t), deadline(o)) {", "                if !earlier(deadline(o), deadline(t)) {"),
     ],
     "deadlines-rounded-down": [
@@ -104,7 +104,7 @@ ALIKE = {
     "deadlines-not-scaled": [
         (THREAD, "whole: e / u,", "whole: e,"), (THREAD, "remainder: (e % u) as u32,", "remainder: 0,"),
     ],
-    "choice-of-active": [(STEP, "b = first(contends(t), d, o, b, j);", "b = first(is_active(t), d, o, b, j);")],
+    "choice-of-active": [(STEP, "            if contends(t) {", "            if is_active(t) {")],
     "choice-always-first": [(STEP, CHOICE, "    charge(z, 0, free, best)\n")],
     "choice-always-idle": [(STEP, CHOICE, "    idle_tick(z)\n")],
     "idle-leaves-threads": [(PASSES, "z.threads[i] = at_rest(t);", "z.threads[i] = t;")],
@@ -113,7 +113,7 @@ ALIKE = {
     "charge-share": [(PASSES, "let room = z.q - free[own];", "let room = t.share;")],
     "own-application-benefits": [(PASSES, "if a != own {", "if a != Table::APPS {")],
     "nobody-benefits": [(PASSES, "if a != own {", "if a == Table::APPS {")],
-    "beneficiary-contending": [(STEP, "best[a] = first(is_active(t), d, p, f, j);", "best[a] = first(contends(t), d, p, f, j);")],
+    "beneficiary-contending": [(STEP, "if leads(d, due[a], best[a]) {", "if contends(t) && leads(d, due[a], best[a]) {")],
     "free-share-of-all": [
         (STEP, "        let a = t.app as usize;\n        let r = free[a];\n        free[a] = r + spare(t);\n",
          "        let mut a: usize = 0;\n        while a < Table::APPS {\n            let r = free[a];\n            free[a] = r + spare(t);\n            a += 1;\n        }\n"),

@@ -10,7 +10,7 @@ use native.Mathlib.Omega.{arith}
 use borrow.Author.Tests.{ne-eqb, eq-eqb, eqb-false}
 use lib.Dec.{eqb}
 use lib.IntN.{pos}
-use lib.ListN.{length, getD, set}
+use lib.ListN.{length, getD, set, length-set}
 use lib.Seq.{getD-set-same, getD-set-other}
 use Rattle.lists.specs.MapTo.{mapTo, map-none, map-at, map-has, map-stays, map-more}
 use Rattle.lists.specs.Sum.{sum-none, sum-more}
@@ -22,7 +22,7 @@ use Rattle.promises.specs.Cases.{by-test, and-false}
 use Rattle.promises.specs.Deadlines.{earliest-in}
 use Rattle.promises.specs.Sound.{Sound, RowOk}
 use Rattle.promises.specs.Item3.{Deadline, deadlineOf, compareParts}
-use Rattle.promises.specs.Remainders.{parts-sooner}
+use Rattle.promises.specs.Remainders.{Parted, parted-is, parts-sooner}
 
 -- ---- every thread changed by f in turn; z is s with the first i of them changed
 module _ (f : Thread → Thread) (s : State) where
@@ -85,57 +85,58 @@ module _ (xs : List Thread) (i : ℕ) where
           → free a i xs + cond (isInactive (at xs i .phase) && eqb (at xs i .app) a) (at xs i .share) 0 ≡ free a i xs
       zero-more e = rw e (omega arith)
 
-  first-other : (a : ℕ) → (a ≡ at xs i .app → ⊥) → earliest (activeIn a) (i + 1) xs ≡ earliest (activeIn a) i xs
-  unfolding earliest
-  first-other a n =
-      ap (λ k. earliest (activeIn a) k xs) (add-one i)
-      ∙ ap (λ c. cond c (cond (eqb b nobody) i (cond (sooner (at xs i) (at xs b)) i b)) b) (and-other a n (not (isInactive (at xs i .phase))))
-    where
-      b : ℕ
-      b = earliest (activeIn a) i xs
-
 -- no thread is of an application that there is not
 pub free-none : {s : State} → Sound s → (a : ℕ) → maxApp < a → (n : ℕ) → n ≤ s .count → free a n (s .threads) ≡ 0
 free-none {s} g a h zero k = sum-none (freeShare a) (s .threads)
 free-none {s} g a h (suc n) k = ap (λ m. free a m (s .threads)) (sym (add-one n)) ∙ free-other (s .threads) n (omega (arith, g .few, g .long)) a (λ e. let o = g .ok n k .app-max in omega arith) ∙ free-none g a h n (omega arith)
 
 -- ---- the earliest so far
--- the thread with which thread i is compared: b, or i itself where b is nobody
-abbrev pub besideOf : ℕ → ℕ → ℕ
-besideOf b i = cond (eqb b nobody) i b
+-- b is nobody, or its deadline o is later than d
+abbrev pub leadsOf : Deadline → Deadline → ℕ → Bool
+leadsOf d o b = cond (eqb b nobody) true (isEarlier (compareParts d o))
 
--- b, or i if it passes and b is nobody or has a later deadline; d and o are the deadlines of i and b
-abbrev pub firstOf : Bool → Deadline → Deadline → ℕ → ℕ → ℕ
-firstOf c d o b i = cond c (cond (eqb b nobody) i (cond (isEarlier (compareParts d o)) i b)) b
+-- b is the earliest of the first i threads, and o its deadline
+pub record Lead (p : Thread → Bool) (xs : List Thread) (i b : ℕ) (o : Deadline) : Type 0 where
+  pub first : b ≡ earliest p i xs
+  pub due : (b ≡ nobody → ⊥) → o ≡ deadlineOf (at xs b)
 
-module _ (p : Thread → Bool) (xs : List Thread) (i b : ℕ) (e : b ≡ earliest p i xs) where
-  pub beside-in : besideOf b i < i + 1
-  beside-in = by-test (λ k. k < i + 1) (eqb b nobody) (λ _. omega arith) (λ n. omega (arith, e, earliest-in p i xs (λ z. eqb-false b nobody n (e ∙ z)) .0))
-
-  pub first-more : (ok : (k : ℕ) → k < i + 1 → RowOk (at xs k)) (c : Bool) → c ≡ p (at xs i) → (d o : Deadline) → d ≡ deadlineOf (at xs i) → o ≡ deadlineOf (at xs (besideOf b i)) → firstOf c d o b i ≡ earliest p (i + 1) xs
+module _ (p : Thread → Bool) (xs : List Thread) (i b : ℕ) (o : Deadline) where
+  pub lead-none : Lead p xs 0 nobody o
   unfolding earliest
-  first-more ok c q d o h k = rw (q, parts-sooner (ok i (omega arith)) (ok (besideOf b i) beside-in) h k)
-      (go (eqb b nobody)
-      ∙ ap (λ m. closer p xs m i) e
-      ∙ sym (ap (λ m. earliest p m xs) (add-one i)))
-    where
-      go : (c : Bool) → cond (p (at xs i)) (cond c i (cond (sooner (at xs i) (at xs (cond c i b))) i b)) b ≡ cond (p (at xs i)) (cond c i (cond (sooner (at xs i) (at xs b)) i b)) b
-      go true = refl
-      go false = refl
+  lead-none = record { first = refl; due = λ f. absurd (f refl) }
 
--- ---- the deadlines in two parts of the first n threads
-abbrev pub undue : Deadline
-undue = record { whole = 0; remainder = 0; share = 0 }
+  next-is : (m : ℕ) → b ≡ earliest p i xs → closer p xs b i ≡ m → m ≡ earliest p (i + 1) xs
+  unfolding earliest
+  next-is m e c = sym c ∙ ap (λ k. closer p xs k i) e ∙ sym (ap (λ k. earliest p k xs) (add-one i))
 
-abbrev pub Dues : List Thread → ℕ → List Deadline → Type 0
-Dues xs n ds = (k : ℕ) → k < n → getD ds k undue ≡ deadlineOf (at xs k)
+  -- one that does not pass
+  pub lead-past : Lead p xs i b o → p (at xs i) ≡ false → Lead p xs (i + 1) b o
+  lead-past l e = record { first = next-is b (l .first) (rw e); due = l .due }
 
-pub due-more : (xs : List Thread) (n : ℕ) (ds : List Deadline) (d : Deadline) → n < length ds → Dues xs n ds → d ≡ deadlineOf (at xs n) → Dues xs (n + 1) (set ds n d)
-due-more xs n ds d l inv e k h = go (ℕ-discrete k n)
-  where
-    go : Dec (k ≡ n) → getD (set ds n d) k undue ≡ deadlineOf (at xs k)
-    go (yes p) = subst (λ m. getD (set ds n d) m undue ≡ deadlineOf (at xs m)) (sym p) (getD-set-same ds n d undue l ∙ e)
-    go (no m) = getD-set-other ds n k d undue m ∙ inv k (omega (arith, m))
+  module _ (ok : (k : ℕ) → k < i + 1 → RowOk (at xs k)) (l : Lead p xs i b o) where
+    inside : (b ≡ nobody → ⊥) → b < i + 1
+    inside f = omega (arith, l .first, earliest-in p i xs (λ z. f (l .first ∙ z)) .0)
+
+    pub lead-parted : (b ≡ nobody → ⊥) → Parted o
+    lead-parted f = parted-is (ok b (inside f)) (l .due f)
+
+    module _ (d : Deadline) (h : d ≡ deadlineOf (at xs i)) (e : p (at xs i) ≡ true) where
+      told : (b ≡ nobody → ⊥) → isEarlier (compareParts d o) ≡ sooner (at xs i) (at xs b)
+      told f = parts-sooner (ok i (omega arith)) (ok b (inside f)) h (l .due f)
+
+      closer-is : (t : Bool) → leadsOf d o b ≡ t → closer p xs b i ≡ cond t i b
+      closer-is t c = rw e (go (eqb b nobody) refl c)
+        where
+          go : (n : Bool) → eqb b nobody ≡ n → cond n true (isEarlier (compareParts d o)) ≡ t → cond n i (cond (sooner (at xs i) (at xs b)) i b) ≡ cond t i b
+          go true q c = ap (λ t. cond t i b) c
+          go false q c = ap (λ t. cond t i b) (sym (told (eqb-false b nobody q)) ∙ c)
+
+      -- one that passes leads or does not
+      pub lead-taken : leadsOf d o b ≡ true → Lead p xs (i + 1) i d
+      lead-taken c = record { first = next-is i (l .first) (closer-is true c); due = λ _. h }
+
+      pub lead-kept : leadsOf d o b ≡ false → Lead p xs (i + 1) b o
+      lead-kept c = record { first = next-is b (l .first) (closer-is false c); due = l .due }
 
 -- ---- one turn of each table; x is the thread whose turn it is, app its application
 module _ (xs : List Thread) (i : ℕ) (f : List ℕ) (long : length f ≡ 16) (x : Thread) (e : x ≡ at xs i) (app : ℕ) (own : app ≡ x .app) (k : app < 16) where
@@ -156,12 +157,45 @@ module _ (xs : List Thread) (i : ℕ) (f : List ℕ) (long : length f ≡ 16) (x
   pub free-more : i < length xs → Table16 (λ a. free a i xs) f → Table16 (λ a. free a (i + 1) xs) (set f app (getD f app 0 + cond (isInactive (x .phase)) (x .share) 0))
   free-more l inv = table-more (λ a. free a i xs) (λ a. free a (i + 1) xs) f app _ long k inv (free-own l inv) (λ a n. free-other xs i l a (other n))
 
-  pub best-more : (ok : (k : ℕ) → k < i + 1 → RowOk (at xs k)) (d o : Deadline) → d ≡ deadlineOf (at xs i) → o ≡ deadlineOf (at xs (besideOf (getD f app 0) i)) → Table16 (λ a. earliest (activeIn a) i xs) f
-      → Table16 (λ a. earliest (activeIn a) (i + 1) xs) (set f app (firstOf (active x) d o (getD f app 0) i))
-  best-more ok d o g h inv =
-      table-more (λ a. earliest (activeIn a) i xs) (λ a. earliest (activeIn a) (i + 1) xs) f app _ long k inv
-      (first-more (activeIn app) xs i (getD f app 0) (inv app k) ok (active x) (with-own (active x) ∙ ap (activeIn app) e) d o g h)
-      (λ a n. first-other xs i a (other n))
+-- ---- the earliest of each application; best has who they are, due their deadlines
+abbrev pub undue : Deadline
+undue = record { whole = 0; remainder = 0; share = 0 }
+
+pub record Leads (xs : List Thread) (i : ℕ) (best : List ℕ) (due : List Deadline) : Type 0 where
+  pub best-long : length best ≡ 16
+  pub due-long : length due ≡ 16
+  pub each : (a : ℕ) → a < 16 → Lead (activeIn a) xs i (getD best a 0) (getD due a undue)
+
+module _ (xs : List Thread) (i : ℕ) (best : List ℕ) (due : List Deadline) (l : Leads xs i best due) where
+  pub leads-past : active (at xs i) ≡ false → Leads xs (i + 1) best due
+  leads-past e = record {
+    best-long = l .best-long;
+    due-long = l .due-long;
+    each = λ a h. lead-past (activeIn a) xs i (getD best a 0) (getD due a undue) (l .each a h) (rw e);
+  }
+
+  module _ (ok : (k : ℕ) → k < i + 1 → RowOk (at xs k)) (app : ℕ) (k : app < 16) (own : app ≡ at xs i .app) (e : active (at xs i) ≡ true) (d : Deadline) (h : d ≡ deadlineOf (at xs i)) where
+    passes : activeIn app (at xs i) ≡ true
+    passes = rw (e, eq-eqb (at xs i .app) app (sym own))
+
+    elsewhere : (a : ℕ) → (a ≡ app → ⊥) → activeIn a (at xs i) ≡ false
+    elsewhere a n = and-other xs i a (λ q. n (q ∙ sym own)) (active (at xs i))
+
+    pub leads-kept : leadsOf d (getD due app undue) (getD best app 0) ≡ false → Leads xs (i + 1) best due
+    leads-kept c = record { best-long = l .best-long; due-long = l .due-long; each = λ a m. go a m (ℕ-discrete a app) }
+      where
+        go : (a : ℕ) → a < 16 → Dec (a ≡ app) → Lead (activeIn a) xs (i + 1) (getD best a 0) (getD due a undue)
+        go a m (yes q) = subst (λ a. Lead (activeIn a) xs (i + 1) (getD best a 0) (getD due a undue)) (sym q) (lead-kept (activeIn app) xs i _ _ ok (l .each app k) d h passes c)
+        go a m (no n) = lead-past (activeIn a) xs i _ _ (l .each a m) (elsewhere a n)
+
+    pub leads-taken : leadsOf d (getD due app undue) (getD best app 0) ≡ true → Leads xs (i + 1) (set best app i) (set due app d)
+    leads-taken c = record { best-long = length-set best app i ∙ l .best-long; due-long = length-set due app d ∙ l .due-long; each = λ a m. go a m (ℕ-discrete a app) }
+      where
+        go : (a : ℕ) → a < 16 → Dec (a ≡ app) → Lead (activeIn a) xs (i + 1) (getD (set best app i) a 0) (getD (set due app d) a undue)
+        go a m (yes q) = subst (λ a. Lead (activeIn a) xs (i + 1) (getD (set best app i) a 0) (getD (set due app d) a undue)) (sym q)
+            (rw (getD-set-same best app i 0 (omega (arith, l .best-long)), getD-set-same due app d undue (omega (arith, l .due-long)))
+            (lead-taken (activeIn app) xs i _ _ ok (l .each app k) d h passes c))
+        go a m (no n) = rw (getD-set-other best app a i 0 n, getD-set-other due app a d undue n) (lead-past (activeIn a) xs i _ _ (l .each a m) (elsewhere a n))
 
 -- ---- one turn of the handing out
 module _ (own a : ℕ) (s : State) (xs : List Thread) where

@@ -16,18 +16,17 @@ use quantities::Outcome;
 use quantities::State;
 use quantities::Stepped;
 use quantities::Table;
-use threads::thread::beside;
 use threads::thread::contends;
 use threads::thread::deadline;
-use threads::thread::first;
 use threads::thread::fit_one;
 use threads::thread::is_active;
+use threads::thread::leads;
 use threads::thread::left_unless;
 use threads::thread::spare;
 
 // The state after one tick before the clock's end; who had it stands in the state. Steps 2, 4 and 5
-// are loops of one function, since a state that goes from function to function is copied; a thread's
-// deadline is parted once, and stands in `due` for the comparisons after it.
+// are loops of one function, since a state that goes from function to function is copied. Each deadline
+// is parted once; those of the earliest so far stand in `o` and `due`.
 fn tick(s: State) -> State
     requires { ⌜ Given s × (s .clock .0 ≡ clockEnd → ⊥) ⌝ }
     ensures { λ r. ⌜ r ≡ stepped s .state ⌝ }
@@ -50,26 +49,32 @@ fn tick(s: State) -> State
         i += 1;
     }
     let mut b: usize = Table::NOBODY;
+    let mut o = Deadline::NONE;
     let mut best = [Table::NOBODY; Table::APPS];
-    let mut due = [Deadline::NONE; Table::MAX_THREADS];
+    let mut due = [Deadline::NONE; Table::APPS];
     let mut j: usize = 0;
-    // step 4, and of those that fit by now who would be chosen (5) and who would benefit (6)
+    // step 4, and of those that fit by now who would benefit (6) and who would be chosen (5)
     while j < n {
-        let x = z.threads[j];
+        let k = j;
+        j += 1;
+        let x = z.threads[k];
         let a = x.app as usize;
         let room = q - free[a];
         let t = fit_one(x, room);
-        z.threads[j] = t;
-        let d = deadline(t);
-        due[j] = d;
-        let k = beside(b, j);
-        let o = due[k];
-        b = first(contends(t), d, o, b, j);
-        let f = best[a];
-        let m = beside(f, j);
-        let p = due[m];
-        best[a] = first(is_active(t), d, p, f, j);
-        j += 1;
+        z.threads[k] = t;
+        if is_active(t) {
+            let d = deadline(t);
+            if leads(d, due[a], best[a]) {
+                best[a] = k;
+                due[a] = d;
+            }
+            if contends(t) {
+                if leads(d, o, b) {
+                    b = k;
+                    o = d;
+                }
+            }
+        }
     }
     if b == Table::NOBODY {
         return idle_tick(z);

@@ -31,8 +31,7 @@ use Rattle.threads.proofs.thread.fit_one.Reads as fit_one
 use Rattle.threads.proofs.thread.deadline.Reads as deadline
 use Rattle.threads.proofs.thread.compared.Reads as compared
 use Rattle.threads.proofs.thread.earlier.Reads as earlier
-use Rattle.threads.proofs.thread.beside.Reads as beside
-use Rattle.threads.proofs.thread.first.Reads as first
+use Rattle.threads.proofs.thread.leads.Reads as leads
 use Rattle.threads.proofs.thread.lighter.Reads as lighter
 use Rattle.threads.proofs.receiving.ending.Reads as ending
 use Rattle.threads.proofs.receiving.find_receiver.Reads as find_receiver
@@ -151,17 +150,11 @@ earlier-one κs a r r' s s' p q = one p q
 pub earlier-asks : (κs : _) (x : Thread) (y : Thread) → RowOk x → RowOk y → earlier.Asked κs (deadlineOf x, (deadlineOf y, tt))
 earlier-asks κs x y f g = (parted f, parted g)
 
-pub beside-one : (κs : _) (a : _) (r r' : _) (s s' : _) → beside.Learnt κs a r s → beside.Learnt κs a r' s' → r ≡ r'
-beside-one κs a r r' s s' p q = one p q
+pub leads-one : (κs : _) (a : _) (r r' : _) (s s' : _) → leads.Learnt κs a r s → leads.Learnt κs a r' s' → r ≡ r'
+leads-one κs a r r' s s' p q = one p q
 
-pub beside-asks : (κs : _) (a : _) → beside.Asked κs a
-beside-asks κs a = tt
-
-pub first-one : (κs : _) (a : _) (r r' : _) (s s' : _) → first.Learnt κs a r s → first.Learnt κs a r' s' → r ≡ r'
-first-one κs a r r' s s' p q = one p q
-
-pub first-asks : (κs : _) (b : _) (x : Thread) (y : Thread) (i : _) (j : _) → RowOk x → RowOk y → first.Asked κs (b, (deadlineOf x, (deadlineOf y, (i, (j, tt)))))
-first-asks κs b x y i j f g = (parted f, parted g)
+pub leads-asks : (κs : _) (x : Thread) (y : Thread) (b : _) → RowOk x → RowOk y → leads.Asked κs (deadlineOf x, (deadlineOf y, (b, tt)))
+leads-asks κs x y b f g = (parted f, λ _. parted g)
 
 pub lighter-one : (κs : _) (a : _) (r r' : _) (s s' : _) → lighter.Learnt κs a r s → lighter.Learnt κs a r' s' → r ≡ r'
 lighter-one κs a r r' s s' p q = one p q

@@ -3,14 +3,14 @@ ghost use mathlib.Core.Path.{_≡_};
 ghost use mathlib.Core.Bool.{cond};
 ghost use Prim.Native.Nat.{_≤_};
 ghost use Rattle.integers.specs.Parts.{Small};
-ghost use Rattle.rules.specs.Limits.{maxQ};
+ghost use Rattle.rules.specs.Limits.{maxQ, nobody};
 ghost use Rattle.rules.specs.Threads.{isInactive, isContending, active, idle, isEarlier, loses};
 ghost use Rattle.rules.specs.Leaving.{leave};
 ghost use Rattle.rules.specs.Fitting.{fit};
 ghost use Rattle.promises.specs.Sound.{RowOk};
 ghost use Rattle.promises.specs.Item3.{deadlineOf, compareParts};
 ghost use Rattle.promises.specs.Remainders.{Parted};
-ghost use Rattle.promises.specs.Tables.{besideOf, firstOf};
+ghost use Rattle.promises.specs.Tables.{leadsOf};
 use crate::amounts::add;
 use crate::amounts::amount_of;
 use crate::amounts::count_of;
@@ -176,31 +176,16 @@ pub fn earlier(d: Deadline, o: Deadline) -> bool
     }
 }
 
-// The thread with whose deadline that of thread i is compared: b, or i itself where b is nobody.
-pub fn beside(b: usize, i: usize) -> usize
-    ensures { λ r. ⌜ r ≡ besideOf b i ⌝ }
+// May a thread with the deadline d take the place of b, the earliest so far? b is nobody, or its
+// deadline, o, is later.
+pub fn leads(d: Deadline, o: Deadline, b: usize) -> bool
+    requires { ⌜ Parted d × ((b ≡ nobody → ⊥) → Parted o) ⌝ }
+    ensures { λ r. ⌜ r ≡ leadsOf d o b ⌝ }
 {
     if b == Table::NOBODY {
-        return i;
+        return true;
     }
-    b
-}
-
-// The earliest so far, b, or thread i: i if it passes and b is nobody or has a later deadline. d and
-// o are the deadlines of i and b.
-pub fn first(passes: bool, d: Deadline, o: Deadline, b: usize, i: usize) -> usize
-    requires { ⌜ Parted d × Parted o ⌝ }
-    ensures { λ r. ⌜ r ≡ firstOf passes d o b i ⌝ }
-{
-    if passes {
-        if b == Table::NOBODY {
-            return i;
-        }
-        if earlier(d, o) {
-            return i;
-        }
-    }
-    b
+    earlier(d, o)
 }
 
 // d less of W.

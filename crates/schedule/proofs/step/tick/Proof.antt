@@ -1,11 +1,13 @@
+use mathlib.Core.Bool.{not, false}
+use mathlib.Core.Logic.{⊎-elim}
 use mathlib.Core.Path.{_≡_, refl, sym, ap, _∙_, subst}
 use Prim.Native.Nat.{_+_, _-_, _≤_, _<_}
 use native.Mathlib.Nat.{le-antisymm, le-refl}
 use native.Mathlib.Omega.{arith}
 use lib.ListN.{length, getD, set, length-set, getD-replicate}
 use Rattle.lists.specs.Sum.{sum-none}
-use Rattle.rules.specs.Limits.{maxThreads, nobody}
-use Rattle.rules.specs.Threads.{Thread, State, withRows, at, contends, activeIn, earliest, free, freeShare, freeOf}
+use Rattle.rules.specs.Limits.{nobody}
+use Rattle.rules.specs.Threads.{Thread, State, Phase, Inactive, Contending, NonContending, withRows, at, isInactive, isContending, contends, active, activeIn, earliest, free, freeShare, freeOf}
 use Rattle.rules.specs.Leaving.{gone}
 use Rattle.rules.specs.Fitting.{fit, fitIn, fitted}
 use Rattle.promises.specs.Keep.{fit-app}
@@ -14,7 +16,7 @@ use Rattle.promises.specs.Always.{given-good}
 use Rattle.promises.specs.Sound.{RowOk, Sound, sound, given-sound, free-le}
 use Rattle.promises.specs.Item3.{deadlineOf}
 use Rattle.promises.specs.Remainders.{parted-is}
-use Rattle.promises.specs.Tables.{Changed, change-none, change-next, change-turn, change-more, leaves, gone-is, Table16, Dues, due-more, beside-in, first-more, free-own, free-more, best-more}
+use Rattle.promises.specs.Tables.{Changed, change-none, change-next, change-turn, change-more, leaves, gone-is, Table16, Lead, lead-none, lead-past, lead-parted, lead-taken, lead-kept, free-own, free-more, Leads, leads-past, leads-kept, leads-taken}
 use Rattle.promises.specs.Taken.{Left, left-all, l-sound, l-count, l-q, fit-sound, Chose, fit-all, best-all, z-steady, z-time, z-free, b-in, is-idle, is-grant}
 use borrow.Author.Needs.{needs}
 use Rattle.schedule.proofs.step.tick.Statement.{statement}
@@ -27,14 +29,13 @@ Inv-loop n q now closed z₀ f₀ i₀ z f i = (i ≤ n) × (length f ≡ 16) ×
 abbrev μ-loop : tie.MeasureT-loop
 μ-loop n q now closed z₀ f₀ i₀ z f i = n - i
 
--- the first j threads fit; b and best are the earliest of them, and due has their deadlines
+-- the first j threads fit; b and best are the earliest of them, and o and due have their deadlines
 abbrev Inv-loop2 : tie.InvT-loop2
-Inv-loop2 n q closed z₀ f i b₀ best₀ due₀ j₀ z b best due j =
-    (j ≤ n) × (length best ≡ 16) × Changed (fitIn z₀) z₀ j z × (b ≡ earliest contends j (fitted z₀ .threads))
-    × Table16 (λ a. earliest (activeIn a) j (fitted z₀ .threads)) best × (length due ≡ maxThreads) × Dues (fitted z₀ .threads) j due
+Inv-loop2 n q closed z₀ f i b₀ o₀ best₀ due₀ j₀ z b o best due j =
+    (j ≤ n) × Changed (fitIn z₀) z₀ j z × Lead contends (fitted z₀ .threads) j b o × Leads (fitted z₀ .threads) j best due
 
 abbrev μ-loop2 : tie.MeasureT-loop2
-μ-loop2 n q closed z₀ f i b₀ best₀ due₀ j₀ z b best due j = n - j
+μ-loop2 n q closed z₀ f i b₀ o₀ best₀ due₀ j₀ z b o best due j = n - j
 
 -- ---- leaving and the free shares
 loop-holds : tie.Need-loop-holds Inv-loop μ-loop Inv-loop2 μ-loop2
@@ -134,7 +135,18 @@ all-left c = let l = c .before .loop in left-all (given-good (c .before .before 
 -- ---- fitting, the choice and the beneficiaries; g is the state once all have left
 loop2-holds : tie.Need-loop2-holds Inv-loop μ-loop Inv-loop2 μ-loop2
 unfolding earliest
-loop2-holds c = let g = c .before .loop .z in (omega arith, refl, change-none (fitIn g) g, refl, λ a h. getD-replicate 16 a nobody 0 h, refl, λ k h. absurd (omega (arith, h)))
+loop2-holds c =
+    let g = c .before .loop .z in
+    let xs = fitted g .threads in (
+      omega arith,
+      change-none (fitIn g) g,
+      lead-none contends xs 0 0 _,
+      record {
+        best-long = refl;
+        due-long = refl;
+        each = λ a h. rw (getD-replicate 16 a nobody 0 h) (lead-none (activeIn a) xs 0 0 _);
+      },
+    )
 
 within : (c : tie.In-loop2 Inv-loop μ-loop Inv-loop2 μ-loop2) → c .before .loop2 .j < c .before .before .before .loop .z .count
 within c = omega (arith, l-count (all-left (c .before .before)), c .loop2-test .taken)
@@ -150,7 +162,7 @@ okay : (c : tie.In-loop2 Inv-loop μ-loop Inv-loop2 μ-loop2) → RowOk (at (c .
 okay c =
     let m = c .before .loop2 in
     let g = c .before .before .before .loop .z in
-    subst RowOk (sym (change-next (fitIn g) g (m .j) (m .inv .2))) (l-sound (all-left (c .before .before)) .ok (m .j) (within c))
+    subst RowOk (sym (change-next (fitIn g) g (m .j) (m .inv .1))) (l-sound (all-left (c .before .before)) .ok (m .j) (within c))
 
 cast-a-2 : tie.Need-cast-a-2 Inv-loop μ-loop Inv-loop2 μ-loop2
 cast-a-2 c = omega (arith, okay (c .before .before) .app-max)
@@ -193,7 +205,7 @@ fitted-at c =
     let d = c .before .before .before in
     let m = d .before .loop2 in
     let g = d .before .before .before .loop .z in
-    change-turn (fitIn g) g (l-sound (all-left (d .before .before))) (m .j) (within d) (m .inv .2) _ (fits c)
+    change-turn (fitIn g) g (l-sound (all-left (d .before .before))) (m .j) (within d) (m .inv .1) _ (fits c)
 
 -- the table with thread j fitted
 stored : (c : tie.After-fit-one Inv-loop μ-loop Inv-loop2 μ-loop2) → let z = c .before .before .before .before .loop2 .z in let j = c .before .before .before .before .loop2 .j in Changed (fitIn (c .before .before .before .before .before .before .loop .z)) (c .before .before .before .before .before .before .loop .z) (j + 1) (withRows z (set (z .threads) j (c .fit-one .result)))
@@ -201,152 +213,169 @@ stored c =
     let d = c .before .before .before in
     let m = d .before .loop2 in
     let g = d .before .before .before .loop .z in
-    change-more (fitIn g) g (l-sound (all-left (d .before .before))) (m .j) (within d) (m .inv .2) _ (fits c)
+    change-more (fitIn g) g (l-sound (all-left (d .before .before))) (m .j) (within d) (m .inv .1) _ (fits c)
 
 -- any thread up to j, once it fits, is within bounds
 seen-ok : (c : tie.After-fit-one Inv-loop μ-loop Inv-loop2 μ-loop2) (k : _) → k < c .before .before .before .before .loop2 .j + 1 → RowOk (at (fitted (c .before .before .before .before .before .before .loop .z) .threads) k)
 unfolding fitted
 seen-ok c k h = let d = c .before .before .before in fit-sound (all-left (d .before .before)) .ok k (omega (arith, within d))
 
-deadline-requires : tie.Need-deadline-requires Inv-loop μ-loop Inv-loop2 μ-loop2
-deadline-requires c κs = subst RowOk (sym (fitted-at c)) (seen-ok c _ (omega arith))
+-- its application is one of 16
+app-of : (c : tie.After-fit-one Inv-loop μ-loop Inv-loop2 μ-loop2) → let m = c .before .before .before .before .loop2 in at (m .z .threads) (m .j) .app < 16
+app-of c = okay (c .before .before .before) .app-max
 
-mul-due : tie.Need-mul-due Inv-loop μ-loop Inv-loop2 μ-loop2
-mul-due c = omega (arith, element-copy-out-x-2 (c .before .before .before .before))
-
-array-set-from-due : tie.Need-array-set-from-due Inv-loop μ-loop Inv-loop2 μ-loop2
-array-set-from-due c = element-copy-out-x-2 (c .before .before .before .before)
-
--- the deadline of thread j
-parts : (c : tie.After-deadline Inv-loop μ-loop Inv-loop2 μ-loop2) → c .deadline .result ≡ deadlineOf (at (fitted (c .before .before .before .before .before .before .before .loop .z) .threads) (c .before .before .before .before .before .loop2 .j))
-parts c = c .deadline .ensures ∙ ap deadlineOf (fitted-at (c .before))
-
--- .. stands with those before it
-dues : (c : tie.After-deadline Inv-loop μ-loop Inv-loop2 μ-loop2) → let m = c .before .before .before .before .before .loop2 in Dues (fitted (c .before .before .before .before .before .before .before .loop .z) .threads) (m .j + 1) (set (m .due) (m .j) (c .deadline .result))
-dues c =
-    let d = c .before .before .before .before in
-    let m = d .before .loop2 in
-    due-more (fitted (d .before .before .before .loop .z) .threads) (m .j) (m .due) (c .deadline .result) (omega (arith, element-copy-out-x-2 d, m .inv .5)) (m .inv .6) (parts c)
-
-beside-requires : tie.Need-beside-requires Inv-loop μ-loop Inv-loop2 μ-loop2
-beside-requires c κs = search needs
-
--- the earliest so far is a thread before j, or j stands in its place
-beside-b : (c : tie.After-beside Inv-loop μ-loop Inv-loop2 μ-loop2) → c .beside .result < c .before .before .before .before .before .before .loop2 .j + 1
-beside-b c =
-    let d = c .before .before .before .before .before in
-    let m = d .before .loop2 in
-    rw (c .beside .ensures) (beside-in contends (fitted (d .before .before .before .loop .z) .threads) (m .j) (m .b) (m .inv .3))
-
--- the application of thread j
-app-of : (c : tie.After-first Inv-loop μ-loop Inv-loop2 μ-loop2) → at (c .before .before .before .before .before .before .before .before .before .loop2 .z .threads) (c .before .before .before .before .before .before .before .before .before .loop2 .j) .app < 16
-app-of c = okay (c .before .before .before .before .before .before .before .before) .app-max
-
--- the beneficiary so far is a thread before j, or j stands in its place
-beside-f : (c : tie.After-beside2 Inv-loop μ-loop Inv-loop2 μ-loop2) → c .beside2 .result < c .before .before .before .before .before .before .before .before .before .before .loop2 .j + 1
-beside-f c =
-    let d = c .before .before .before .before .before .before .before .before .before in
-    let m = d .before .loop2 in
-    let a = at (m .z .threads) (m .j) .app in
-    rw (c .beside2 .ensures) (beside-in (activeIn a) (fitted (d .before .before .before .loop .z) .threads) (m .j) (getD (m .best) a 0) (m .inv .4 a (app-of (c .before))))
-
-loop2-again : tie.Need-loop2-again Inv-loop μ-loop Inv-loop2 μ-loop2
-loop2-again c =
-    let y = c .before .before .before in
-    let e = y .before in
-    let k = e .before .before .before in
-    let h = k .before in
-    let t = h .before in
-    let d = t .before .before .before in
-    let m = d .before .loop2 in
-    let xs = fitted (d .before .before .before .loop .z) .threads in
-    let x = at (m .z .threads) (m .j) in
-    let a = x .app in
-    let own : a ≡ t .fit-one .result .app = sym (ap (λ (x : Thread). x .app) (t .fit-one .ensures) ∙ fit-app _ x) in (
-      omega arith,
-      length-set (m .best) _ _ ∙ m .inv .1,
-      stored t,
-      rw (e .first .ensures)
-          (first-more contends xs (m .j) (m .b) (m .inv .3) (seen-ok t) _ (e .before .contends .ensures ∙ ap contends (fitted-at t)) _ _ (parts h) (dues h _ (beside-b k) ∙ ap (λ i. deadlineOf (at xs i)) (k .beside .ensures))),
-      rw (c .first2 .ensures, c .before .is-active .ensures)
-          (best-more xs (m .j) (m .best) (m .inv .1) (t .fit-one .result) (fitted-at t) a own (app-of e) (seen-ok t) _ _ (parts h) (dues h _ (beside-f y) ∙ ap (λ i. deadlineOf (at xs i)) (y .beside2 .ensures)) (m .inv .4)),
-      length-set (m .due) _ _ ∙ m .inv .5,
-      dues h,
-    )
-
-array-copy-out-o : tie.Need-array-copy-out-o Inv-loop μ-loop Inv-loop2 μ-loop2
-array-copy-out-o c = let d = c .before .before .before .before .before in omega (arith, beside-b c, within d, l-sound (all-left (d .before .before)) .few)
-
-mul-o : tie.Need-mul-o Inv-loop μ-loop Inv-loop2 μ-loop2
-mul-o c = omega (arith, array-copy-out-o c)
-
-contends-requires : tie.Need-contends-requires Inv-loop μ-loop Inv-loop2 μ-loop2
-contends-requires c κs = search needs
-
-first-requires : tie.Need-first-requires Inv-loop μ-loop Inv-loop2 μ-loop2
-first-requires c κs =
-    let k = c .before .before in
-    let h = k .before in
-    (parted-is (seen-ok (h .before) _ (omega arith)) (parts h), parted-is (seen-ok (h .before) _ (beside-b k)) (dues h _ (beside-b k)))
-
-mul-f : tie.Need-mul-f Inv-loop μ-loop Inv-loop2 μ-loop2
-mul-f c = omega (arith, app-of c)
-
-array-read-f : tie.Need-array-read-f Inv-loop μ-loop Inv-loop2 μ-loop2
-array-read-f c = app-of c
-
-beside-requires-2 : tie.Need-beside-requires-2 Inv-loop μ-loop Inv-loop2 μ-loop2
-beside-requires-2 c κs = search needs
-
-array-copy-out-p : tie.Need-array-copy-out-p Inv-loop μ-loop Inv-loop2 μ-loop2
-array-copy-out-p c = let d = c .before .before .before .before .before .before .before .before .before in omega (arith, beside-f c, within d, l-sound (all-left (d .before .before)) .few)
-
-mul-p : tie.Need-mul-p Inv-loop μ-loop Inv-loop2 μ-loop2
-mul-p c = omega (arith, array-copy-out-p c)
+own : (c : tie.After-fit-one Inv-loop μ-loop Inv-loop2 μ-loop2) → let m = c .before .before .before .before .loop2 in at (m .z .threads) (m .j) .app ≡ at (fitted (c .before .before .before .before .before .before .loop .z) .threads) (m .j) .app
+own c =
+    let m = c .before .before .before .before .loop2 in
+    sym (ap (λ (x : Thread). x .app) (sym (fitted-at c) ∙ c .fit-one .ensures) ∙ fit-app _ (at (m .z .threads) (m .j)))
 
 is-active-requires : tie.Need-is-active-requires Inv-loop μ-loop Inv-loop2 μ-loop2
 is-active-requires c κs = search needs
 
-first-requires-2 : tie.Need-first-requires-2 Inv-loop μ-loop Inv-loop2 μ-loop2
-first-requires-2 c κs =
-    let y = c .before .before in
-    let h = y .before .before .before .before .before in
-    (parted-is (seen-ok (h .before) _ (omega arith)) (parts h), parted-is (seen-ok (h .before) _ (beside-f y)) (dues h _ (beside-f y)))
+-- whether thread j is active
+activity : (c : tie.After-is-active Inv-loop μ-loop Inv-loop2 μ-loop2) → active (at (fitted (c .before .before .before .before .before .before .before .loop .z) .threads) (c .before .before .before .before .before .loop2 .j)) ≡ c .is-active .result
+activity c = sym (c .is-active .ensures ∙ ap active (fitted-at (c .before)))
+
+deadline-requires : tie.Need-deadline-requires Inv-loop μ-loop Inv-loop2 μ-loop2
+deadline-requires c κs = let t = c .before .before in subst RowOk (sym (fitted-at t)) (seen-ok t _ (omega arith))
+
+-- the deadline of thread j
+parts : (c : tie.After-deadline Inv-loop μ-loop Inv-loop2 μ-loop2) → c .deadline .result ≡ deadlineOf (at (fitted (c .before .before .before .before .before .before .before .before .before .loop .z) .threads) (c .before .before .before .before .before .before .before .loop2 .j))
+parts c = c .deadline .ensures ∙ ap deadlineOf (fitted-at (c .before .before .before))
+
+mul-leads : tie.Need-mul-leads Inv-loop μ-loop Inv-loop2 μ-loop2
+mul-leads c = omega (arith, app-of (c .before .before .before))
+
+array-copy-out-leads : tie.Need-array-copy-out-leads Inv-loop μ-loop Inv-loop2 μ-loop2
+array-copy-out-leads c = app-of (c .before .before .before)
+
+mul-leads-2 : tie.Need-mul-leads-2 Inv-loop μ-loop Inv-loop2 μ-loop2
+mul-leads-2 c = omega (arith, app-of (c .before .before .before .before))
+
+array-read-leads : tie.Need-array-read-leads Inv-loop μ-loop Inv-loop2 μ-loop2
+array-read-leads c = app-of (c .before .before .before .before)
+
+leads-requires : tie.Need-leads-requires Inv-loop μ-loop Inv-loop2 μ-loop2
+leads-requires c κs =
+    let h = c .before in
+    let t = h .before .before .before in
+    let m = t .before .before .before .before .loop2 in
+    (parted-is (seen-ok t _ (omega arith)) (parts h), λ f. lead-parted _ _ _ _ _ (seen-ok t) (m .inv .3 .each _ (app-of t)) f)
 
 mul-best : tie.Need-mul-best Inv-loop μ-loop Inv-loop2 μ-loop2
-mul-best c = omega (arith, app-of (c .before .before .before .before))
+mul-best c = omega (arith, app-of (c .before .before .before .before .before .before))
 
 array-write-best : tie.Need-array-write-best Inv-loop μ-loop Inv-loop2 μ-loop2
-array-write-best c = app-of (c .before .before .before .before)
+array-write-best c = app-of (c .before .before .before .before .before .before)
 
-add-j : tie.Need-add-j Inv-loop μ-loop Inv-loop2 μ-loop2
-add-j c = omega (arith, element-copy-out-x-2 (c .before .before .before .before .before .before .before .before .before .before .before .before))
+mul-due : tie.Need-mul-due Inv-loop μ-loop Inv-loop2 μ-loop2
+mul-due c = omega (arith, app-of (c .before .before .before .before .before .before))
+
+array-set-from-due : tie.Need-array-set-from-due Inv-loop μ-loop Inv-loop2 μ-loop2
+array-set-from-due c = app-of (c .before .before .before .before .before .before)
+
+-- the earliest of each application once thread j is looked at
+each-led : (c : tie.Joined2 Inv-loop μ-loop Inv-loop2 μ-loop2) → let t = c .before .before .before .before .before .before in Leads (fitted (t .before .before .before .before .before .before .loop .z) .threads) (t .before .before .before .before .loop2 .j + 1) (c .if2 .best) (c .if2 .due)
+each-led c =
+    let h = c .before .before .before in
+    let t = h .before .before .before in
+    let m = t .before .before .before .before .loop2 in
+    let xs = fitted (t .before .before .before .before .before .before .loop .z) .threads in
+    let is = activity (h .before .before) ∙ h .before .if1 .taken in
+    let told = sym (c .before .leads .ensures) in
+    ⊎-elim
+    (λ w. rw (w .1, w .2) (leads-taken xs (m .j) (m .best) (m .due) (m .inv .3) (seen-ok t) _ (app-of t) (own t) is _ (parts h) (told ∙ w .0 .taken)))
+    (λ w. rw (w .1, w .2) (leads-kept xs (m .j) (m .best) (m .due) (m .inv .3) (seen-ok t) _ (app-of t) (own t) is _ (parts h) (told ∙ w .0 .left)))
+    (c .if2 .came)
+
+contends-requires : tie.Need-contends-requires Inv-loop μ-loop Inv-loop2 μ-loop2
+contends-requires c κs = search needs
+
+-- whether thread j contends
+contention : (c : tie.After-contends Inv-loop μ-loop Inv-loop2 μ-loop2) → let t = c .before .before .before .before .before .before .before in contends (at (fitted (t .before .before .before .before .before .before .loop .z) .threads) (t .before .before .before .before .loop2 .j)) ≡ c .contends .result
+contention c = sym (c .contends .ensures ∙ ap contends (fitted-at (c .before .before .before .before .before .before .before)))
+
+leads-requires-2 : tie.Need-leads-requires-2 Inv-loop μ-loop Inv-loop2 μ-loop2
+leads-requires-2 c κs =
+    let h = c .before .before .before .before .before in
+    let t = h .before .before .before in
+    let m = t .before .before .before .before .loop2 in
+    (parted-is (seen-ok t _ (omega arith)) (parts h), λ f. lead-parted _ _ _ _ _ (seen-ok t) (m .inv .2) f)
+
+loop2-again : tie.Need-loop2-again Inv-loop μ-loop Inv-loop2 μ-loop2
+loop2-again c =
+    let e = c .before .before .before in
+    let h = e .before .before .before .before in
+    let t = h .before .before .before in
+    let m = t .before .before .before .before .loop2 in
+    (omega arith, stored t, lead-taken _ _ _ _ _ (seen-ok t) (m .inv .2) _ (parts h) (contention e ∙ c .before .before .if3 .taken) (sym (c .before .leads2 .ensures) ∙ c .if4 .taken), each-led (e .before))
 
 loop2-less : tie.Need-loop2-less Inv-loop μ-loop Inv-loop2 μ-loop2
 loop2-less c = omega arith
+
+loop2-again-2 : tie.Need-loop2-again-2 Inv-loop μ-loop Inv-loop2 μ-loop2
+loop2-again-2 c =
+    let e = c .before .before .before in
+    let h = e .before .before .before .before in
+    let t = h .before .before .before in
+    let m = t .before .before .before .before .loop2 in
+    (omega arith, stored t, lead-kept _ _ _ _ _ (seen-ok t) (m .inv .2) _ (parts h) (contention e ∙ c .before .before .if3 .taken) (sym (c .before .leads2 .ensures) ∙ c .if4 .left), each-led (e .before))
+
+loop2-less-2 : tie.Need-loop2-less-2 Inv-loop μ-loop Inv-loop2 μ-loop2
+loop2-less-2 c = omega arith
+
+loop2-again-3 : tie.Need-loop2-again-3 Inv-loop μ-loop Inv-loop2 μ-loop2
+loop2-again-3 c =
+    let e = c .before in
+    let t = e .before .before .before .before .before .before .before in
+    let m = t .before .before .before .before .loop2 in
+    (omega arith, stored t, lead-past _ _ _ _ _ (m .inv .2) (contention e ∙ c .if3 .left), each-led (e .before))
+
+loop2-less-3 : tie.Need-loop2-less-3 Inv-loop μ-loop Inv-loop2 μ-loop2
+loop2-less-3 c = omega arith
+
+-- who is not active does not contend
+resting : (p : Phase) → not (isInactive p) ≡ false → isContending p ≡ false
+resting Inactive e = refl
+resting Contending e = e
+resting NonContending e = refl
+
+loop2-again-4 : tie.Need-loop2-again-4 Inv-loop μ-loop Inv-loop2 μ-loop2
+loop2-again-4 c =
+    let t = c .before .before in
+    let m = t .before .before .before .before .loop2 in
+    let off = activity (c .before) ∙ c .if1 .left in
+    let x = at (fitted (t .before .before .before .before .before .before .loop .z) .threads) (m .j) in
+    (omega arith, stored t, lead-past _ _ _ _ _ (m .inv .2) (resting (x .phase) off), leads-past _ _ _ _ (m .inv .3) off)
+
+loop2-less-4 : tie.Need-loop2-less-4 Inv-loop μ-loop Inv-loop2 μ-loop2
+loop2-less-4 c = omega arith
+
+add-j : tie.Need-add-j Inv-loop μ-loop Inv-loop2 μ-loop2
+add-j c = omega (arith, element-copy-out-x-2 c)
 
 -- ---- what is known once the thread is chosen
 all-seen : (c : tie.After-loop2 Inv-loop μ-loop Inv-loop2 μ-loop2) → c .before .loop2 .j ≡ c .before .before .before .loop .z .count
 all-seen c = le-antisymm (c .before .loop2 .inv .0) (c .loop2-test .left) ∙ sym (l-count (all-left (c .before .before)))
 
 chose : (c : tie.After-loop2 Inv-loop μ-loop Inv-loop2 μ-loop2) → Chose (c .before .before .before .before .before .args .s) (c .before .before .before .loop .z) (c .before .loop2 .z) (c .before .loop2 .b)
-chose c = let m = c .before .loop2 in fit-all (all-left (c .before .before)) (m .j) (all-seen c) (m .inv .2) (c .before .before .before .before .before .pre .1) (m .b) (m .inv .3)
+chose c = let m = c .before .loop2 in fit-all (all-left (c .before .before)) (m .j) (all-seen c) (m .inv .1) (c .before .before .before .before .before .pre .1) (m .b) (m .inv .2 .first)
 
 idle-tick-requires : tie.Need-idle-tick-requires Inv-loop μ-loop Inv-loop2 μ-loop2
 idle-tick-requires c κs = let h = chose (c .before) in (sound (z-steady h), z-time h)
 
 returns : tie.Need-returns Inv-loop μ-loop Inv-loop2 μ-loop2
-returns c = is-idle (chose (c .before .before)) (c .before .if1 .taken) _ (c .idle-tick .ensures)
+returns c = is-idle (chose (c .before .before)) (c .before .if5 .taken) _ (c .idle-tick .ensures)
 
 returns-2 : tie.Need-returns-2 Inv-loop μ-loop Inv-loop2 μ-loop2
-returns-2 c = is-grant (chose (c .before .before)) (c .before .if1 .left) _ (c .charge .ensures)
+returns-2 c = is-grant (chose (c .before .before)) (c .before .if5 .left) _ (c .charge .ensures)
 
 charge-requires : tie.Need-charge-requires Inv-loop μ-loop Inv-loop2 μ-loop2
 charge-requires c κs =
     let h = chose (c .before) in
     let l = all-left (c .before .before .before) in
     let m = c .before .before .loop2 in
-    (z-steady h, b-in h (c .if1 .left), z-time h, z-free h (c .before .before .before .before .loop .free) (l .free), best-all l (m .j) (all-seen (c .before)) (m .inv .2) (m .best) (m .inv .4))
+    (z-steady h, b-in h (c .if5 .left), z-time h, z-free h (c .before .before .before .before .loop .free) (l .free), best-all l (m .j) (all-seen (c .before)) (m .inv .1) (m .best) (λ a h. m .inv .3 .each a h .first))
 
 pub tick-spec : {M : Type 1} → statement M
 tick-spec =
@@ -373,6 +402,7 @@ tick-spec =
     loop-less
     loop-again
     loop2-holds
+    add-j
     mul-x-2
     element-copy-out-x-2
     cast-a-2
@@ -382,26 +412,27 @@ tick-spec =
     fit-one-requires
     mul-t-2
     element-set-from-t-2
-    deadline-requires
-    mul-due
-    array-set-from-due
-    beside-requires
-    mul-o
-    array-copy-out-o
-    contends-requires
-    first-requires
-    mul-f
-    array-read-f
-    beside-requires-2
-    mul-p
-    array-copy-out-p
     is-active-requires
-    first-requires-2
+    deadline-requires
+    mul-leads
+    array-copy-out-leads
+    mul-leads-2
+    array-read-leads
+    leads-requires
     mul-best
     array-write-best
-    add-j
+    mul-due
+    array-set-from-due
+    contends-requires
+    leads-requires-2
     loop2-less
     loop2-again
+    loop2-less-2
+    loop2-again-2
+    loop2-less-3
+    loop2-again-3
+    loop2-less-4
+    loop2-again-4
     idle-tick-requires
     returns
     charge-requires
