@@ -1,4 +1,4 @@
--- Document 02, Item 3, "Fewer wide products", as a promise of any two threads of a given state.
+-- Document 02, Item 3, "Fewer wide products", as a promise of any two threads of a given state and of one at the choice.
 use mathlib.Core.Path.{_≡_}
 use mathlib.Core.Bool.{Bool, cond, _&&_}
 use Prim.Native.Nat.{ℕ, _+_, _*_, _/_, _%_, _<_}
@@ -10,6 +10,7 @@ use Rattle.integers.specs.Fractions.{joined, before}
 use Rattle.rules.specs.Limits.{maxQ}
 use Rattle.rules.specs.Threads.{Thread, State, Order, Earlier, Equal, Later, at, contends, compare}
 use Rattle.rules.specs.Fitting.{fit}
+use Rattle.rules.specs.Step.{ready}
 use Rattle.rules.specs.Calls.{Given}
 pub use Rattle.quantities.specs.declared.Deadline.{Deadline}
 
@@ -66,5 +67,10 @@ pub record Item3 (x y : Thread) : Type 0 where
   pub narrow : Narrow x y
   pub fits : FitsByPeriod x
 
+-- of any two threads of a state
+abbrev pub OfThreads : State → Type 0
+OfThreads s = (i j : ℕ) → i < s .count → j < s .count → Item3 (at (s .threads) i) (at (s .threads) j)
+
+-- between any two calls, as receivers are found, and at the choice
 abbrev pub Promised : Type 0
-Promised = (s : State) → Given s → (i j : ℕ) → i < s .count → j < s .count → Item3 (at (s .threads) i) (at (s .threads) j)
+Promised = (s : State) → Given s → OfThreads s × OfThreads (ready s)

@@ -11,8 +11,9 @@ use lib.Signed.{ltZ}
 use Rattle.integers.specs.Parts.{up, dn}
 use Rattle.rules.specs.Threads.{Thread, State, Order, Earlier, Equal, Contending, amt, at, contends, compare, isEarlier}
 use Rattle.rules.specs.Fitting.{fit}
+use Rattle.rules.specs.Step.{ready}
 use Rattle.rules.specs.Calls.{Given}
-use Rattle.promises.specs.Item3.{Deadline, deadlineOf, later, NotNegative, Told, Narrow, FitsByPeriod, Promised}
+use Rattle.promises.specs.Item3.{Deadline, deadlineOf, later, NotNegative, Told, Narrow, FitsByPeriod, OfThreads, Promised}
 
 -- a thread of the share u, with W = 0 and E = e
 abbrev due : ℕ → ℤ → Thread
@@ -50,8 +51,15 @@ pub below-0-unfit : FitsByPeriod (due 5 (negsuc 0)) → ⊥
 unfolding fit
 below-0-unfit h = let n = ap (λ (d : Deadline). d .whole) (h 10) in omega arith
 
--- ---- from the statement alone, of two threads of a given state
-module _ (p : Promised) (s : State) (g : Given s) (i j : ℕ) (h : i < s .count) (k : j < s .count) where
+-- ---- from the statement alone: of a given state and at its choice
+pub between-calls : Promised → (s : State) → Given s → OfThreads s
+between-calls p s g = p s g .0
+
+pub at-the-choice : Promised → (s : State) → Given s → OfThreads (ready s)
+at-the-choice p s g = p s g .1
+
+-- .. and so of two threads
+module _ (s : State) (p : OfThreads s) (i j : ℕ) (h : i < s .count) (k : j < s .count) where
   abbrev x : Thread
   x = at (s .threads) i
 
@@ -65,17 +73,17 @@ module _ (p : Promised) (s : State) (g : Given s) (i j : ℕ) (h : i < s .count)
   o = deadlineOf y
 
   pub two-parts : (up (x .e .0) ≡ d .whole * x .share + d .remainder) × (dn (x .e .0) ≡ 0)
-  two-parts = let n = p s g i j h k .not-negative in (ap up n, ap dn n)
+  two-parts = let n = p i j h k .not-negative in (ap up n, ap dn n)
 
   -- fewer whole ticks
   pub earlier-by-whole-part : d .whole < o .whole → compare x y ≡ Earlier
-  earlier-by-whole-part l = rw (p s g i j h k .told, lt-ltb (d .whole) (o .whole) l)
+  earlier-by-whole-part l = rw (p i j h k .told, lt-ltb (d .whole) (o .whole) l)
 
   -- as many, and a lesser remainder
   pub earlier-by-remainder : d .whole ≡ o .whole → d .remainder * y .share < o .remainder * x .share → compare x y ≡ Earlier
   earlier-by-remainder e l =
       rw (
-        p s g i j h k .told,
+        p i j h k .told,
         le-ltb (d .whole) (o .whole) (omega arith),
         eq-eqb (d .whole) (o .whole) e,
         lt-ltb (d .remainder * y .share) (o .remainder * x .share) l,
@@ -85,7 +93,7 @@ module _ (p : Promised) (s : State) (g : Given s) (i j : ℕ) (h : i < s .count)
   pub equal-by-parts : d .whole ≡ o .whole → d .remainder * y .share ≡ o .remainder * x .share → compare x y ≡ Equal
   equal-by-parts e l =
       rw (
-        p s g i j h k .told,
+        p i j h k .told,
         le-ltb (d .whole) (o .whole) (omega arith),
         le-ltb (o .whole) (d .whole) (omega arith),
         le-ltb (d .remainder * y .share) (o .remainder * x .share) (omega arith),
@@ -95,7 +103,7 @@ module _ (p : Promised) (s : State) (g : Given s) (i j : ℕ) (h : i < s .count)
       )
 
   pub in-24-bits : d .remainder * y .share < 2 ^ 24
-  in-24-bits = omega (arith, p s g i j h k .narrow)
+  in-24-bits = omega (arith, p i j h k .narrow)
 
   -- a thread that is fitted has P whole ticks more and the same remainder; one that is not has the same deadline
   module _ (room : ℕ) where
@@ -103,10 +111,10 @@ module _ (p : Promised) (s : State) (g : Given s) (i j : ℕ) (h : i < s .count)
     Below t = ltZ (x .e .0 -ℤ x .w .0) (pos room) ≡ t
 
     pub fitted-a-period-later : contends x ≡ true → Below true → deadlineOf (fit room x) ≡ later (x .period) d
-    fitted-a-period-later c t = p s g i j h k .fits room ∙ rw (c, t)
+    fitted-a-period-later c t = p i j h k .fits room ∙ rw (c, t)
 
     pub not-contending-unfitted : contends x ≡ false → deadlineOf (fit room x) ≡ d
-    not-contending-unfitted c = p s g i j h k .fits room ∙ rw c
+    not-contending-unfitted c = p i j h k .fits room ∙ rw c
 
     pub fitting-unfitted : contends x ≡ true → Below false → deadlineOf (fit room x) ≡ d
-    fitting-unfitted c t = p s g i j h k .fits room ∙ rw (c, t)
+    fitting-unfitted c t = p i j h k .fits room ∙ rw (c, t)

@@ -15,8 +15,10 @@ use Rattle.rules.specs.Threads.{Thread, State, at, contends, compare, isEarlier
 use Rattle.rules.specs.Table.{opening}
 use Rattle.rules.specs.Fitting.{postpone, fit}
 use Rattle.rules.specs.Calls.{Given, arrive, after}
-use Rattle.promises.specs.Sound.{RowOk, given-sound}
-use Rattle.promises.specs.Item3.{Deadline, deadlineOf, compareParts, byParts, later, NotNegative, FitsByPeriod, Item3, Promised}
+use Rattle.promises.specs.Ready.{ready-ready}
+use Rattle.promises.specs.Always.{given-good}
+use Rattle.promises.specs.Sound.{RowOk, Sound, sound, given-sound}
+use Rattle.promises.specs.Item3.{Deadline, deadlineOf, compareParts, byParts, later, NotNegative, FitsByPeriod, Item3, OfThreads, Promised}
 use Rattle.promises.specs.Witness.{halves, Computed}
 
 -- what the comparison asks of a deadline
@@ -81,16 +83,19 @@ fits-by-period {x} k room = by (contends x) (ltZ (x .e .0 -ℤ x .w .0) (pos roo
     by false t = refl
 
 -- ---- of every given state
-pub item-3 : Promised
-item-3 s g i j h k =
-    let x = given-sound g .ok i h in
-    let y = given-sound g .ok j k in
+of-sound : {s : State} → Sound s → OfThreads s
+of-sound g i j h k =
+    let x = g .ok i h in
+    let y = g .ok j k in
     record {
       not-negative = not-negative x;
       told = sym (parts-compare x y) ∙ parts-order (parted x) (parted y);
       narrow = products-small (parted x) (parted y);
       fits = fits-by-period x;
     }
+
+pub item-3 : Promised
+item-3 s g = (of-sound (given-sound g), of-sound (sound (ready-ready (given-good g) .sound)))
 
 -- .. of which there are some: two threads that contend, by calls from their table on
 abbrev two : State
@@ -102,4 +107,4 @@ two-given = record { usual = usualPeriod; table = halves; calls = arrive 0 ∷ a
 pub item-3-met :
     let x = at (two .threads) 0 in let y = at (two .threads) 1 in Item3 x y × (contends x ≡ true) × (contends y ≡ true)
 unfolding Computed opening after
-item-3-met = (item-3 two two-given 0 1 (lit< tt) (lit< tt), refl, refl)
+item-3-met = (item-3 two two-given .0 0 1 (lit< tt) (lit< tt), refl, refl)
