@@ -1,4 +1,5 @@
 use mathlib.Core.Bool.{not, false}
+use mathlib.Core.List.{List}
 use mathlib.Core.Logic.{⊎-elim}
 use mathlib.Core.Path.{_≡_, refl, sym, ap, _∙_, subst}
 use Prim.Native.Nat.{_+_, _-_, _≤_, _<_}
@@ -188,8 +189,21 @@ element-set-from-t-2 c = element-copy-out-x-2 (c .before .before .before)
 mul-t-2 : tie.Need-mul-t-2 Inv-loop μ-loop Inv-loop2 μ-loop2
 mul-t-2 c = omega (arith, element-set-from-t-2 c)
 
+-- where thread j has been fitted: all that was known before, the state once all have left, and its threads once they fit
+abbrev Turn : Type 0
+Turn = tie.After-fit-one Inv-loop μ-loop Inv-loop2 μ-loop2
+
+abbrev known : Turn → tie.At-loop2 Inv-loop μ-loop Inv-loop2 μ-loop2
+known c = c .before .before .before .before
+
+abbrev gone-from : Turn → State
+gone-from c = known c .before .before .loop .z
+
+abbrev fitting : Turn → List Thread
+fitting c = fitted (gone-from c) .threads
+
 -- thread j fits
-fits : (c : tie.After-fit-one Inv-loop μ-loop Inv-loop2 μ-loop2) → c .fit-one .result ≡ fitIn (c .before .before .before .before .before .before .loop .z) (at (c .before .before .before .before .loop2 .z .threads) (c .before .before .before .before .loop2 .j))
+fits : (c : Turn) → c .fit-one .result ≡ fitIn (gone-from c) (at (known c .loop2 .z .threads) (known c .loop2 .j))
 fits c =
     let d = c .before .before .before in
     let h = all-left (d .before .before) in
@@ -199,7 +213,7 @@ fits c =
     ∙ ap (λ r. fit (d .before .before .before .before .before .args .s .q - r) x) (h .free (x .app) (okay d .app-max))
     ∙ ap (λ q. fit (q - freeOf (x .app) g) x) (sym (l-q h))
 
-fitted-at : (c : tie.After-fit-one Inv-loop μ-loop Inv-loop2 μ-loop2) → c .fit-one .result ≡ at (fitted (c .before .before .before .before .before .before .loop .z) .threads) (c .before .before .before .before .loop2 .j)
+fitted-at : (c : Turn) → c .fit-one .result ≡ at (fitting c) (known c .loop2 .j)
 unfolding fitted
 fitted-at c =
     let d = c .before .before .before in
@@ -208,7 +222,8 @@ fitted-at c =
     change-turn (fitIn g) g (l-sound (all-left (d .before .before))) (m .j) (within d) (m .inv .1) _ (fits c)
 
 -- the table with thread j fitted
-stored : (c : tie.After-fit-one Inv-loop μ-loop Inv-loop2 μ-loop2) → let z = c .before .before .before .before .loop2 .z in let j = c .before .before .before .before .loop2 .j in Changed (fitIn (c .before .before .before .before .before .before .loop .z)) (c .before .before .before .before .before .before .loop .z) (j + 1) (withRows z (set (z .threads) j (c .fit-one .result)))
+stored : (c : Turn)
+    → let m = known c .loop2 in Changed (fitIn (gone-from c)) (gone-from c) (m .j + 1) (withRows (m .z) (set (m .z .threads) (m .j) (c .fit-one .result)))
 stored c =
     let d = c .before .before .before in
     let m = d .before .loop2 in
@@ -216,31 +231,31 @@ stored c =
     change-more (fitIn g) g (l-sound (all-left (d .before .before))) (m .j) (within d) (m .inv .1) _ (fits c)
 
 -- any thread up to j, once it fits, is within bounds
-seen-ok : (c : tie.After-fit-one Inv-loop μ-loop Inv-loop2 μ-loop2) (k : _) → k < c .before .before .before .before .loop2 .j + 1 → RowOk (at (fitted (c .before .before .before .before .before .before .loop .z) .threads) k)
+seen-ok : (c : Turn) (k : _) → k < known c .loop2 .j + 1 → RowOk (at (fitting c) k)
 unfolding fitted
 seen-ok c k h = let d = c .before .before .before in fit-sound (all-left (d .before .before)) .ok k (omega (arith, within d))
 
 -- its application is one of 16
-app-of : (c : tie.After-fit-one Inv-loop μ-loop Inv-loop2 μ-loop2) → let m = c .before .before .before .before .loop2 in at (m .z .threads) (m .j) .app < 16
+app-of : (c : Turn) → at (known c .loop2 .z .threads) (known c .loop2 .j) .app < 16
 app-of c = okay (c .before .before .before) .app-max
 
-own : (c : tie.After-fit-one Inv-loop μ-loop Inv-loop2 μ-loop2) → let m = c .before .before .before .before .loop2 in at (m .z .threads) (m .j) .app ≡ at (fitted (c .before .before .before .before .before .before .loop .z) .threads) (m .j) .app
+own : (c : Turn) → at (known c .loop2 .z .threads) (known c .loop2 .j) .app ≡ at (fitting c) (known c .loop2 .j) .app
 own c =
-    let m = c .before .before .before .before .loop2 in
+    let m = known c .loop2 in
     sym (ap (λ (x : Thread). x .app) (sym (fitted-at c) ∙ c .fit-one .ensures) ∙ fit-app _ (at (m .z .threads) (m .j)))
 
 is-active-requires : tie.Need-is-active-requires Inv-loop μ-loop Inv-loop2 μ-loop2
 is-active-requires c κs = search needs
 
 -- whether thread j is active
-activity : (c : tie.After-is-active Inv-loop μ-loop Inv-loop2 μ-loop2) → active (at (fitted (c .before .before .before .before .before .before .before .loop .z) .threads) (c .before .before .before .before .before .loop2 .j)) ≡ c .is-active .result
+activity : (c : tie.After-is-active Inv-loop μ-loop Inv-loop2 μ-loop2) → let t = c .before in active (at (fitting t) (known t .loop2 .j)) ≡ c .is-active .result
 activity c = sym (c .is-active .ensures ∙ ap active (fitted-at (c .before)))
 
 deadline-requires : tie.Need-deadline-requires Inv-loop μ-loop Inv-loop2 μ-loop2
 deadline-requires c κs = let t = c .before .before in subst RowOk (sym (fitted-at t)) (seen-ok t _ (omega arith))
 
 -- the deadline of thread j
-parts : (c : tie.After-deadline Inv-loop μ-loop Inv-loop2 μ-loop2) → c .deadline .result ≡ deadlineOf (at (fitted (c .before .before .before .before .before .before .before .before .before .loop .z) .threads) (c .before .before .before .before .before .before .before .loop2 .j))
+parts : (c : tie.After-deadline Inv-loop μ-loop Inv-loop2 μ-loop2) → let t = c .before .before .before in c .deadline .result ≡ deadlineOf (at (fitting t) (known t .loop2 .j))
 parts c = c .deadline .ensures ∙ ap deadlineOf (fitted-at (c .before .before .before))
 
 mul-leads : tie.Need-mul-leads Inv-loop μ-loop Inv-loop2 μ-loop2
@@ -259,7 +274,7 @@ leads-requires : tie.Need-leads-requires Inv-loop μ-loop Inv-loop2 μ-loop2
 leads-requires c κs =
     let h = c .before in
     let t = h .before .before .before in
-    let m = t .before .before .before .before .loop2 in
+    let m = known t .loop2 in
     (parted-is (seen-ok t _ (omega arith)) (parts h), λ f. lead-parted _ _ _ _ _ (seen-ok t) (m .inv .3 .each _ (app-of t)) f)
 
 mul-best : tie.Need-mul-best Inv-loop μ-loop Inv-loop2 μ-loop2
@@ -275,31 +290,32 @@ array-set-from-due : tie.Need-array-set-from-due Inv-loop μ-loop Inv-loop2 μ-l
 array-set-from-due c = app-of (c .before .before .before .before .before .before)
 
 -- the earliest of each application once thread j is looked at
-each-led : (c : tie.Joined2 Inv-loop μ-loop Inv-loop2 μ-loop2) → let t = c .before .before .before .before .before .before in Leads (fitted (t .before .before .before .before .before .before .loop .z) .threads) (t .before .before .before .before .loop2 .j + 1) (c .if2 .best) (c .if2 .due)
+each-led : (c : tie.Joined2 Inv-loop μ-loop Inv-loop2 μ-loop2)
+    → let t = c .before .before .before .before .before .before in Leads (fitting t) (known t .loop2 .j + 1) (c .if2 .best) (c .if2 .due)
 each-led c =
     let h = c .before .before .before in
     let t = h .before .before .before in
-    let m = t .before .before .before .before .loop2 in
-    let xs = fitted (t .before .before .before .before .before .before .loop .z) .threads in
+    let m = known t .loop2 in
     let is = activity (h .before .before) ∙ h .before .if1 .taken in
     let told = sym (c .before .leads .ensures) in
     ⊎-elim
-    (λ w. rw (w .1, w .2) (leads-taken xs (m .j) (m .best) (m .due) (m .inv .3) (seen-ok t) _ (app-of t) (own t) is _ (parts h) (told ∙ w .0 .taken)))
-    (λ w. rw (w .1, w .2) (leads-kept xs (m .j) (m .best) (m .due) (m .inv .3) (seen-ok t) _ (app-of t) (own t) is _ (parts h) (told ∙ w .0 .left)))
+    (λ w. rw (w .1, w .2) (leads-taken (fitting t) (m .j) (m .best) (m .due) (m .inv .3) (seen-ok t) _ (app-of t) (own t) is _ (parts h) (told ∙ w .0 .taken)))
+    (λ w. rw (w .1, w .2) (leads-kept (fitting t) (m .j) (m .best) (m .due) (m .inv .3) (seen-ok t) _ (app-of t) (own t) is _ (parts h) (told ∙ w .0 .left)))
     (c .if2 .came)
 
 contends-requires : tie.Need-contends-requires Inv-loop μ-loop Inv-loop2 μ-loop2
 contends-requires c κs = search needs
 
 -- whether thread j contends
-contention : (c : tie.After-contends Inv-loop μ-loop Inv-loop2 μ-loop2) → let t = c .before .before .before .before .before .before .before in contends (at (fitted (t .before .before .before .before .before .before .loop .z) .threads) (t .before .before .before .before .loop2 .j)) ≡ c .contends .result
+contention : (c : tie.After-contends Inv-loop μ-loop Inv-loop2 μ-loop2)
+    → let t = c .before .before .before .before .before .before .before in contends (at (fitting t) (known t .loop2 .j)) ≡ c .contends .result
 contention c = sym (c .contends .ensures ∙ ap contends (fitted-at (c .before .before .before .before .before .before .before)))
 
 leads-requires-2 : tie.Need-leads-requires-2 Inv-loop μ-loop Inv-loop2 μ-loop2
 leads-requires-2 c κs =
     let h = c .before .before .before .before .before in
     let t = h .before .before .before in
-    let m = t .before .before .before .before .loop2 in
+    let m = known t .loop2 in
     (parted-is (seen-ok t _ (omega arith)) (parts h), λ f. lead-parted _ _ _ _ _ (seen-ok t) (m .inv .2) f)
 
 loop2-again : tie.Need-loop2-again Inv-loop μ-loop Inv-loop2 μ-loop2
@@ -307,8 +323,10 @@ loop2-again c =
     let e = c .before .before .before in
     let h = e .before .before .before .before in
     let t = h .before .before .before in
-    let m = t .before .before .before .before .loop2 in
-    (omega arith, stored t, lead-taken _ _ _ _ _ (seen-ok t) (m .inv .2) _ (parts h) (contention e ∙ c .before .before .if3 .taken) (sym (c .before .leads2 .ensures) ∙ c .if4 .taken), each-led (e .before))
+    let m = known t .loop2 in
+    let is = contention e ∙ c .before .before .if3 .taken in
+    let told = sym (c .before .leads2 .ensures) ∙ c .if4 .taken in
+    (omega arith, stored t, lead-taken _ _ _ _ _ (seen-ok t) (m .inv .2) _ (parts h) is told, each-led (e .before))
 
 loop2-less : tie.Need-loop2-less Inv-loop μ-loop Inv-loop2 μ-loop2
 loop2-less c = omega arith
@@ -318,8 +336,10 @@ loop2-again-2 c =
     let e = c .before .before .before in
     let h = e .before .before .before .before in
     let t = h .before .before .before in
-    let m = t .before .before .before .before .loop2 in
-    (omega arith, stored t, lead-kept _ _ _ _ _ (seen-ok t) (m .inv .2) _ (parts h) (contention e ∙ c .before .before .if3 .taken) (sym (c .before .leads2 .ensures) ∙ c .if4 .left), each-led (e .before))
+    let m = known t .loop2 in
+    let is = contention e ∙ c .before .before .if3 .taken in
+    let told = sym (c .before .leads2 .ensures) ∙ c .if4 .left in
+    (omega arith, stored t, lead-kept _ _ _ _ _ (seen-ok t) (m .inv .2) _ (parts h) is told, each-led (e .before))
 
 loop2-less-2 : tie.Need-loop2-less-2 Inv-loop μ-loop Inv-loop2 μ-loop2
 loop2-less-2 c = omega arith
@@ -328,7 +348,7 @@ loop2-again-3 : tie.Need-loop2-again-3 Inv-loop μ-loop Inv-loop2 μ-loop2
 loop2-again-3 c =
     let e = c .before in
     let t = e .before .before .before .before .before .before .before in
-    let m = t .before .before .before .before .loop2 in
+    let m = known t .loop2 in
     (omega arith, stored t, lead-past _ _ _ _ _ (m .inv .2) (contention e ∙ c .if3 .left), each-led (e .before))
 
 loop2-less-3 : tie.Need-loop2-less-3 Inv-loop μ-loop Inv-loop2 μ-loop2
@@ -343,10 +363,9 @@ resting NonContending e = refl
 loop2-again-4 : tie.Need-loop2-again-4 Inv-loop μ-loop Inv-loop2 μ-loop2
 loop2-again-4 c =
     let t = c .before .before in
-    let m = t .before .before .before .before .loop2 in
+    let m = known t .loop2 in
     let off = activity (c .before) ∙ c .if1 .left in
-    let x = at (fitted (t .before .before .before .before .before .before .loop .z) .threads) (m .j) in
-    (omega arith, stored t, lead-past _ _ _ _ _ (m .inv .2) (resting (x .phase) off), leads-past _ _ _ _ (m .inv .3) off)
+    (omega arith, stored t, lead-past _ _ _ _ _ (m .inv .2) (resting (at (fitting t) (m .j) .phase) off), leads-past _ _ _ _ (m .inv .3) off)
 
 loop2-less-4 : tie.Need-loop2-less-4 Inv-loop μ-loop Inv-loop2 μ-loop2
 loop2-less-4 c = omega arith
