@@ -5,13 +5,14 @@ use mathlib.Core.List.{[], _∷_}
 use Prim.Native.Nat.{ℕ, _+_, _*_, _/_, _≤_, _<_}
 use native.Mathlib.Nat.{mod-lt}
 use native.Mathlib.Omega.{arith}
-use lib.Dec.{lit<}
+use borrow.Author.Tests.{lt-ltb, le-ltb, eq-eqb, ne-eqb}
+use lib.Dec.{ltb, lit<}
 use lib.IntN.{pos, _-ℤ_}
 use lib.Signed.{ltZ}
 use Rattle.integers.specs.Parts.{up, as-nat}
 use Rattle.integers.specs.Fractions.{order, apart, remainder-small, more-whole, more-remainder}
 use Rattle.rules.specs.Limits.{maxQ, usualPeriod}
-use Rattle.rules.specs.Threads.{Thread, State, at, contends, compare, isEarlier, sooner}
+use Rattle.rules.specs.Threads.{Thread, State, Earlier, Equal, Later, at, contends, compare, isEarlier, sooner}
 use Rattle.rules.specs.Table.{opening}
 use Rattle.rules.specs.Fitting.{postpone, fit}
 use Rattle.rules.specs.Calls.{Given, arrive, after}
@@ -41,6 +42,36 @@ parts-order {d} {o} p q =
       order (d .whole) (d .remainder) (d .share) (o .whole) (o .remainder) (o .share) (p .below) (q .below),
       order (o .whole) (o .remainder) (o .share) (d .whole) (d .remainder) (d .share) (q .below) (p .below),
     )
+
+-- .. of which there are three cases
+module _ {d o : Deadline} (p : Parted d) (q : Parted o) where
+  pub fewer-ticks : d .whole < o .whole → compareParts d o ≡ Earlier
+  fewer-ticks h = rw (parts-order p q, lt-ltb (d .whole) (o .whole) h)
+
+  pub more-ticks : o .whole < d .whole → compareParts d o ≡ Later
+  more-ticks h =
+      rw (
+        parts-order p q,
+        le-ltb (d .whole) (o .whole) (omega arith),
+        ne-eqb (d .whole) (o .whole) (λ e. omega arith),
+        lt-ltb (o .whole) (d .whole) h,
+      )
+
+  abbrev x : ℕ
+  x = d .remainder * o .share
+
+  abbrev y : ℕ
+  y = o .remainder * d .share
+
+  pub same-ticks : d .whole ≡ o .whole → compareParts d o ≡ cond (ltb x y) Earlier (cond (ltb y x) Later Equal)
+  same-ticks e =
+      rw (
+        parts-order p q,
+        le-ltb (d .whole) (o .whole) (omega arith),
+        le-ltb (o .whole) (d .whole) (omega arith),
+        eq-eqb (d .whole) (o .whole) e,
+        eq-eqb (o .whole) (d .whole) (sym e),
+      )
 
 -- each product of a remainder with the other's share is below 4,096², and so fits 32 bits
 pub products-small : {d o : Deadline} → Parted d → Parted o → d .remainder * o .share < maxQ * maxQ
