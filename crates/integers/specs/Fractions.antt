@@ -1,9 +1,9 @@
 -- A fraction e / u in two parts: m whole ones and a remainder of r parts, r below u, so that e is m × u + r. The order by whole part and
 -- remainder is the order of the fractions, e1 × u2 against e2 × u1, and only remainders are multiplied, each with the other's u.
-use mathlib.Core.Path.{_≡_, refl, sym, ap, _∙_}
+use mathlib.Core.Path.{_≡_, refl, ap}
 use mathlib.Core.Bool.{Bool, true, false, _&&_, _||_}
 use Prim.Native.Nat.{ℕ, zero, suc, _+_, _*_, _/_, _%_, _≤_, _<_}
-use native.Mathlib.Nat.{le-refl, mul-le-mul, mod-lt, div-add-mod', add-mul-div-left, add-mul-mod-self-left}
+use native.Mathlib.Nat.{le-refl, mul-le-mul, div-add-mod', add-mul-div-left, add-mul-mod-self-left}
 use native.Mathlib.Omega.{arith}
 use borrow.Author.Tests.{ltb-true, ltb-false, lt-ltb, le-ltb, eqb-true, eqb-false}
 use lib.Dec.{ltb, eqb}

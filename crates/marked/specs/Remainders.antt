@@ -4,11 +4,10 @@ use mathlib.Core.List.{List, [], _∷_}
 use Prim.Native.Nat.{ℕ}
 use lib.IntN.{pos}
 use Rattle.lists.specs.All.{All, none, more}
-use Rattle.rules.specs.Threads.{Thread, State, Contending, NonContending, Inactive, Earlier, Equal, Later, amt, at, compare}
-use Rattle.rules.specs.Table.{Table}
+use Rattle.rules.specs.Threads.{Thread, State, Contending, NonContending, Earlier, Equal, Later, amt, at, compare}
 use Rattle.rules.specs.Charge.{beneficiary}
 use Rattle.rules.specs.Step.{Grant, ready, stepped}
-use Rattle.rules.specs.Calls.{Call, complete, arrive, step, after}
+use Rattle.rules.specs.Calls.{complete, arrive, step, after}
 use Rattle.marked.specs.Example.{number, amount, thread, outcome, order, Example, example, Holds, row, tableOf, begin, e, look}
 
 -- a thread of the share u with E = n

@@ -1,15 +1,14 @@
 -- Item 3 says no less than its words: what just meets its predicates and what misses them by one, and what follows from its
 -- statement alone, whatever proves that.
 use mathlib.Core.Path.{_≡_, refl, sym, ap, _∙_}
-use mathlib.Core.Bool.{Bool, true, false, cond, _&&_, false≢true}
-use mathlib.Core.List.{[], _∷_}
-use Prim.Native.Nat.{ℕ, _+_, _*_, _^_, _≤_, _<_}
+use mathlib.Core.Bool.{Bool, true, false, false≢true}
+use Prim.Native.Nat.{ℕ, _+_, _*_, _^_, _<_}
 use native.Mathlib.Omega.{arith}
 use borrow.Author.Tests.{lt-ltb, le-ltb, eq-eqb}
 use lib.IntN.{ℤ, pos, negsuc, _-ℤ_}
 use lib.Signed.{ltZ}
 use Rattle.integers.specs.Parts.{up, dn}
-use Rattle.rules.specs.Threads.{Thread, State, Order, Earlier, Equal, Contending, amt, at, contends, compare, isEarlier}
+use Rattle.rules.specs.Threads.{Thread, State, Earlier, Equal, Contending, amt, at, contends, compare, isEarlier}
 use Rattle.rules.specs.Fitting.{fit}
 use Rattle.rules.specs.Step.{ready}
 use Rattle.rules.specs.Calls.{Given}

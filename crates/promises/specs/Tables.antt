@@ -18,7 +18,7 @@ use Rattle.rules.specs.Limits.{maxApp, nobody}
 use Rattle.rules.specs.Threads.{Thread, State, blank, at, withRows, isInactive, active, activeIn, freeShare, free, freeOf, isEarlier, sooner, closer, earliest, loses, loseAt}
 use Rattle.rules.specs.Leaving.{leave, gone}
 use Rattle.rules.specs.Charge.{beneficiary, benefits}
-use Rattle.promises.specs.Cases.{by-test, and-false}
+use Rattle.promises.specs.Cases.{and-false}
 use Rattle.promises.specs.Deadlines.{earliest-in}
 use Rattle.promises.specs.Sound.{Sound, RowOk}
 use Rattle.promises.specs.Item3.{Deadline, deadlineOf, compareParts}

@@ -5,7 +5,7 @@ use mathlib.Core.Path.{_≡_, refl, sym, ap, _∙_, subst}
 use Prim.Native.Nat.{_+_, _-_, _≤_, _<_}
 use native.Mathlib.Nat.{le-antisymm, le-refl}
 use native.Mathlib.Omega.{arith}
-use lib.ListN.{length, getD, set, length-set, getD-replicate}
+use lib.ListN.{length, set, length-set, getD-replicate}
 use Rattle.lists.specs.Sum.{sum-none}
 use Rattle.rules.specs.Limits.{nobody}
 use Rattle.rules.specs.Threads.{Thread, State, Phase, Inactive, Contending, NonContending, withRows, at, isInactive, isContending, contends, active, activeIn, earliest, free, freeShare, freeOf}

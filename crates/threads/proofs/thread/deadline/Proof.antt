@@ -1,4 +1,3 @@
-use mathlib.Core.Path.{_≡_, ap}
 use native.Mathlib.Nat.{mod-lt}
 use native.Mathlib.Omega.{arith}
 use borrow.Author.Needs.{needs}
