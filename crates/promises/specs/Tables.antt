@@ -127,7 +127,8 @@ module _ (p : Thread → Bool) (xs : List Thread) (i b : ℕ) (o : Deadline) whe
       closer-is : (t : Bool) → leadsOf d o b ≡ t → closer p xs b i ≡ cond t i b
       closer-is t c = rw e (go (eqb b nobody) refl c)
         where
-          go : (n : Bool) → eqb b nobody ≡ n → cond n true (isEarlier (compareParts d o)) ≡ t → cond n i (cond (sooner (at xs i) (at xs b)) i b) ≡ cond t i b
+          go : (n : Bool) → eqb b nobody ≡ n → cond n true (isEarlier (compareParts d o)) ≡ t
+              → cond n i (cond (sooner (at xs i) (at xs b)) i b) ≡ cond t i b
           go true q c = ap (λ t. cond t i b) c
           go false q c = ap (λ t. cond t i b) (sym (told (eqb-false b nobody q)) ∙ c)
 
@@ -174,7 +175,8 @@ module _ (xs : List Thread) (i : ℕ) (best : List ℕ) (due : List Deadline) (l
     each = λ a h. lead-past (activeIn a) xs i (getD best a 0) (getD due a undue) (l .each a h) (rw e);
   }
 
-  module _ (ok : (k : ℕ) → k < i + 1 → RowOk (at xs k)) (app : ℕ) (k : app < 16) (own : app ≡ at xs i .app) (e : active (at xs i) ≡ true) (d : Deadline) (h : d ≡ deadlineOf (at xs i)) where
+  module _ (ok : (k : ℕ) → k < i + 1 → RowOk (at xs k)) (app : ℕ) (k : app < 16) (own : app ≡ at xs i .app)
+      (e : active (at xs i) ≡ true) (d : Deadline) (h : d ≡ deadlineOf (at xs i)) where
     passes : activeIn app (at xs i) ≡ true
     passes = rw (e, eq-eqb (at xs i .app) app (sym own))
 
@@ -185,17 +187,23 @@ module _ (xs : List Thread) (i : ℕ) (best : List ℕ) (due : List Deadline) (l
     leads-kept c = record { best-long = l .best-long; due-long = l .due-long; each = λ a m. go a m (ℕ-discrete a app) }
       where
         go : (a : ℕ) → a < 16 → Dec (a ≡ app) → Lead (activeIn a) xs (i + 1) (getD best a 0) (getD due a undue)
-        go a m (yes q) = subst (λ a. Lead (activeIn a) xs (i + 1) (getD best a 0) (getD due a undue)) (sym q) (lead-kept (activeIn app) xs i _ _ ok (l .each app k) d h passes c)
+        go a m (yes q) = subst (λ a. Lead (activeIn a) xs (i + 1) (getD best a 0) (getD due a undue)) (sym q)
+            (lead-kept (activeIn app) xs i _ _ ok (l .each app k) d h passes c)
         go a m (no n) = lead-past (activeIn a) xs i _ _ (l .each a m) (elsewhere a n)
 
     pub leads-taken : leadsOf d (getD due app undue) (getD best app 0) ≡ true → Leads xs (i + 1) (set best app i) (set due app d)
-    leads-taken c = record { best-long = length-set best app i ∙ l .best-long; due-long = length-set due app d ∙ l .due-long; each = λ a m. go a m (ℕ-discrete a app) }
+    leads-taken c = record {
+      best-long = length-set best app i ∙ l .best-long;
+      due-long = length-set due app d ∙ l .due-long;
+      each = λ a m. go a m (ℕ-discrete a app);
+    }
       where
         go : (a : ℕ) → a < 16 → Dec (a ≡ app) → Lead (activeIn a) xs (i + 1) (getD (set best app i) a 0) (getD (set due app d) a undue)
         go a m (yes q) = subst (λ a. Lead (activeIn a) xs (i + 1) (getD (set best app i) a 0) (getD (set due app d) a undue)) (sym q)
             (rw (getD-set-same best app i 0 (omega (arith, l .best-long)), getD-set-same due app d undue (omega (arith, l .due-long)))
             (lead-taken (activeIn app) xs i _ _ ok (l .each app k) d h passes c))
-        go a m (no n) = rw (getD-set-other best app a i 0 n, getD-set-other due app a d undue n) (lead-past (activeIn a) xs i _ _ (l .each a m) (elsewhere a n))
+        go a m (no n) = rw (getD-set-other best app a i 0 n, getD-set-other due app a d undue n)
+            (lead-past (activeIn a) xs i _ _ (l .each a m) (elsewhere a n))
 
 -- ---- one turn of the handing out
 module _ (own a : ℕ) (s : State) (xs : List Thread) where
