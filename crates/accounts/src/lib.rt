@@ -1,5 +1,7 @@
 // The accounts of the applications: where each stands while a schedule goes on, and a line of text
 // for each stretch that ends.
+#![tactic(auto)]
+
 ghost use Rattle.std.specs.Prelude.{◌≡◌, ◌+◌, ◌≤◌, length};
 ghost use Rattle.rules.specs.Limits.{apps};
 ghost use Rattle.rules.specs.Stretches.{all_quiet};
@@ -22,7 +24,7 @@ use text::report::How;
 pub const ROOM: usize = 16384;
 
 // How far lines were written, and where the applications then stand.
-#[derive(Drop)]
+#[derive(Clone, Copy)]
 pub struct Marked {
     pub used: usize,
     pub activities: [Activity; Table::APPS],

@@ -16,7 +16,7 @@ use schedule::step::next;
 use text::report::How;
 
 // How far lines were written, where the applications then stand, and the schedule.
-#[derive(Drop)]
+#[derive(Clone, Copy)]
 pub struct Noted {
     pub used: usize,
     pub activities: [Activity; Table::APPS],

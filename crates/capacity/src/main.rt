@@ -1,5 +1,7 @@
 // The program: a trace from standard input, or from the file that is named, and the report of its
 // stretches on standard output. It only reads, calls and writes.
+#![tactic(auto)]
+
 ghost use Rattle.std.specs.Prelude.{◌-◌, ◌≤◌, length, take, drop, true, ◌≡◌};
 ghost use Rattle.rules.specs.Report.{report_heading};
 ghost use Rattle.capacity.specs.Shell.{Good, Enough, Ready, opened, stopped, after, StopsOr, Filled, Said, Turned};
@@ -10,7 +12,7 @@ use report::{Tally, TallyTurn};
 // A report while the program runs: how far it has come, the part of the buffer that holds what was
 // read and not yet taken, whether the input has ended there, whether more of it is wanted, and
 // whether the program goes on.
-#[derive(Drop)]
+#[derive(Clone, Copy)]
 pub struct Shell {
     pub tally: Tally,
     pub start: usize,

@@ -1,5 +1,7 @@
 // The schedule's calls for C and Rust, linked as a static library. A state goes in and out by value;
 // in place of an enum, which cannot cross, stands a number.
+#![tactic(auto)]
+
 ghost use Rattle.std.specs.Prelude.{◌≡◌};
 ghost use Rattle.rules.specs.Limits.{usual_period};
 ghost use Rattle.rules.specs.Threads.{free_of};
@@ -16,7 +18,7 @@ use quantities::{Amount, Answer, Answered, Moment, Outcome, Phase, State, Table,
 
 // A thread outside: phase 0 is inactive, 1 contending, 2 non-contending.
 #[repr(C)]
-#[derive(Drop)]
+#[derive(Clone, Copy)]
 pub struct OutThread {
     pub app: u8,
     pub phase: u8,
@@ -28,7 +30,7 @@ pub struct OutThread {
 }
 
 #[repr(C)]
-#[derive(Drop)]
+#[derive(Clone, Copy)]
 pub struct OutState {
     pub threads: [OutThread; Table::MAX_THREADS],
     pub count: usize,
@@ -41,7 +43,7 @@ pub struct OutState {
 
 // An answer outside: the refusal's number, or 0 where nothing is refused.
 #[repr(C)]
-#[derive(Drop)]
+#[derive(Clone, Copy)]
 pub struct OutAnswered {
     pub refusal: u8,
     pub state: OutState,
@@ -49,7 +51,7 @@ pub struct OutAnswered {
 
 // What a step answers outside: the refusal's number, or 0; then the thread, or 65,535 for an idle tick.
 #[repr(C)]
-#[derive(Drop)]
+#[derive(Clone, Copy)]
 pub struct OutStepped {
     pub refusal: u8,
     pub thread: u16,

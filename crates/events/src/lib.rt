@@ -1,4 +1,6 @@
 // Completions, arrivals and drops, at the present clock.
+#![tactic(auto)]
+
 ghost use Rattle.std.specs.Prelude.{◌≡◌, ◌<◌, ◌≤◌};
 ghost use Rattle.rules.specs.Limits.{max_jobs, clock_end};
 ghost use Rattle.rules.specs.Threads.{Contending, at, with, with_jobs, with_rows};

@@ -1,1 +1,2 @@
 // Laws of integers, in specs/; no code.
+#![tactic(auto)]

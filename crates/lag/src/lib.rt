@@ -1,1 +1,2 @@
 // Laws only: how far an application, and a thread, may lag its share.
+#![tactic(auto)]

@@ -1,6 +1,8 @@
 // Runs the limits of document 01 that are not proved as examples: for each a line with what was
 // tried, inside the limit and outside it, and what was answered. The file stdout has the answers of
 // document 01. The limits of records that a listing can show are among the stored traces.
+#![tactic(auto)]
+
 mod admission;
 mod calls;
 mod completions;

@@ -1,4 +1,6 @@
 // The listing of a trace: from windows of the input into a lent output.
+#![tactic(auto)]
+
 ghost use Rattle.std.specs.Prelude.{◌≡◌, true, false, ◌+◌, ◌≤◌, length};
 ghost use Rattle.std.proofs.lemmas.List.Edits.{sets};
 ghost use Rattle.rules.specs.Reading.{ticks_due};
@@ -19,7 +21,7 @@ use quantities::{Answer, Decoded, Frame, Progress, Record, Turn};
 use text::LONGEST;
 
 // Where a call stands after a part of it, and whether it goes on.
-#[derive(Drop)]
+#[derive(Clone, Copy)]
 pub struct Acted {
     pub goes: bool,
     pub at: usize,

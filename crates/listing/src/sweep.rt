@@ -15,14 +15,14 @@ use quantities::{Decoded, Frame, Moment, Phase, Progress, Record, Table, Thread}
 const TOO_MANY: u32 = 65536;
 
 // A whole record and its length, or the length 0.
-#[derive(Drop)]
+#[derive(Clone, Copy)]
 pub struct Seen {
     pub length: usize,
     pub what: Record,
 }
 
 // Where records were swept up to.
-#[derive(Drop)]
+#[derive(Clone, Copy)]
 pub struct Swept {
     pub at: usize,
     pub progress: Progress,

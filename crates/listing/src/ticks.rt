@@ -9,7 +9,7 @@ use schedule::step::next;
 use text::LONGEST;
 
 // Where ticks were listed up to.
-#[derive(Drop)]
+#[derive(Clone, Copy)]
 pub struct Ticked {
     pub used: usize,
     pub state: State,

@@ -1,1 +1,2 @@
 // Laws of lists, in specs/; no code.
+#![tactic(auto)]

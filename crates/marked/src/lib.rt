@@ -1,1 +1,2 @@
 // Document 01 worked in examples, in specs/; no code.
+#![tactic(auto)]

@@ -1,11 +1,13 @@
 // What holds of the rules, in specs/. The one function here ties the limits of the code to those of
 // the rules.
+#![tactic(auto)]
+
 ghost use Rattle.std.specs.Prelude.{◌≡◌};
 ghost use Rattle.rules.specs.Limits.{max_q, max_threads, max_app, apps, max_period, usual_period, max_jobs, clock_end, nobody, idle_entry};
 
 use quantities::{Moment, Table};
 
-#[derive(Drop)]
+#[derive(Clone, Copy)]
 struct Limits {
     q: u16,
     threads: usize,

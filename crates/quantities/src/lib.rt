@@ -1,17 +1,18 @@
 // The types of the schedule, and the limits of its table. There is no function here.
+#![tactic(auto)]
 
 // A moment, or a length of time, in ticks.
 #[repr(C)]
-#[derive(Drop)]
+#[derive(Clone, Copy)]
 pub struct Moment(pub u32);
 
 // An amount in share-ticks. A moment becomes an amount only by multiplying with a share.
 #[repr(C)]
-#[derive(Drop)]
+#[derive(Clone, Copy)]
 pub struct Amount(pub i64);
 
 // How one deadline stands to another.
-#[derive(Drop)]
+#[derive(Clone, Copy)]
 pub enum Order {
     Earlier,
     Equal,
@@ -19,7 +20,7 @@ pub enum Order {
 }
 
 // A deadline in two parts: whole ticks, and a remainder below the share, in parts of it. E is whole × share + remainder.
-#[derive(Drop)]
+#[derive(Clone, Copy)]
 pub struct Deadline {
     pub whole: u64,
     pub remainder: u32,
@@ -35,7 +36,7 @@ impl Deadline {
     };
 }
 
-#[derive(Drop)]
+#[derive(Clone, Copy)]
 pub enum Phase {
     Inactive,
     Contending,
@@ -43,7 +44,7 @@ pub enum Phase {
 }
 
 // A thread: its row of the table, and where it stands. W is u × virtual time, E is u × deadline.
-#[derive(Drop)]
+#[derive(Clone, Copy)]
 pub struct Thread {
     pub app: u8,
     pub phase: Phase,
@@ -57,7 +58,7 @@ pub struct Thread {
 
 // A row of a table as it is written: period 0 stands for the usual one.
 #[repr(C)]
-#[derive(Drop)]
+#[derive(Clone, Copy)]
 pub struct Row {
     pub app: u16,
     pub share: u16,
@@ -66,7 +67,7 @@ pub struct Row {
 
 // A table as it is written; its rows are the first `threads` of `rows`.
 #[repr(C)]
-#[derive(Drop)]
+#[derive(Clone, Copy)]
 pub struct Table {
     pub q: u16,
     pub threads: u16,
@@ -97,7 +98,7 @@ impl Table {
 }
 
 // The whole state of the schedule; it goes in and out by value.
-#[derive(Drop)]
+#[derive(Clone, Copy)]
 pub struct State {
     pub threads: [Thread; Table::MAX_THREADS],
     // how many of them the table has
@@ -113,27 +114,27 @@ pub struct State {
 }
 
 // What one step answers: the thread that has the tick, an idle tick, or a refusal by its number.
-#[derive(Drop)]
+#[derive(Clone, Copy)]
 pub enum Outcome {
     Grant(u16),
     Idle,
     Refused(u8),
 }
 
-#[derive(Drop)]
+#[derive(Clone, Copy)]
 pub struct Stepped {
     pub outcome: Outcome,
     pub state: State,
 }
 
 // What a table, an event or a run answers.
-#[derive(Drop)]
+#[derive(Clone, Copy)]
 pub enum Answer {
     Done,
     Refused(u8),
 }
 
-#[derive(Drop)]
+#[derive(Clone, Copy)]
 pub struct Answered {
     pub answer: Answer,
     pub state: State,
@@ -142,7 +143,7 @@ pub struct Answered {
 // What stands at the start of the rest of an input: nothing; no whole record, since the input ends
 // inside of it or its length is below 2; or a whole record with its kind and its length in bytes,
 // the two of the length among them.
-#[derive(Drop)]
+#[derive(Clone, Copy)]
 pub enum Frame {
     Ended,
     Cut,
@@ -150,7 +151,7 @@ pub enum Frame {
 }
 
 // What the body of a record says.
-#[derive(Drop)]
+#[derive(Clone, Copy)]
 pub enum Record {
     Head(u16, u16),
     Row(Row),
@@ -160,7 +161,7 @@ pub enum Record {
     Drop(Moment, u16),
 }
 
-#[derive(Drop)]
+#[derive(Clone, Copy)]
 pub enum Decoded {
     Known(Record),
     Refused(u8),
@@ -168,14 +169,14 @@ pub enum Decoded {
 
 // A trace while it is read: the table, how many of its rows have come, and the schedule, which
 // begins with the last of them. No head has come while the table has no thread.
-#[derive(Drop)]
+#[derive(Clone, Copy)]
 pub struct Reading {
     pub table: Table,
     pub rows: usize,
     pub state: State,
 }
 
-#[derive(Drop)]
+#[derive(Clone, Copy)]
 pub struct Read {
     pub answer: Answer,
     pub reading: Reading,
@@ -183,7 +184,7 @@ pub struct Read {
 
 // What an input held whole gives: the answer, the byte at which the refused record starts or the
 // input ends, and the reading up to there.
-#[derive(Drop)]
+#[derive(Clone, Copy)]
 pub struct InputRead {
     pub answer: Answer,
     pub at: usize,
@@ -192,7 +193,7 @@ pub struct InputRead {
 
 // A listing while it is written: the reading, the byte at which the next record starts, and
 // whether the last line is written.
-#[derive(Drop)]
+#[derive(Clone, Copy)]
 pub struct Progress {
     pub reading: Reading,
     pub place: u64,
@@ -201,7 +202,7 @@ pub struct Progress {
 
 // What a call of the listing answers: how many bytes of the window it took, how many bytes of the
 // output it wrote, and the progress.
-#[derive(Drop)]
+#[derive(Clone, Copy)]
 pub struct Turn {
     pub taken: usize,
     pub written: usize,
@@ -210,7 +211,7 @@ pub struct Turn {
 
 // A stretch of an application: since when it holds, the ticks granted to the application since, and
 // the capacity that it lost since.
-#[derive(Drop)]
+#[derive(Clone, Copy)]
 pub struct Stretch {
     pub since: Moment,
     pub granted: u32,
@@ -219,7 +220,7 @@ pub struct Stretch {
 
 // Where an application stands: how many of its threads are active, and the stretch that holds while
 // some are.
-#[derive(Drop)]
+#[derive(Clone, Copy)]
 pub struct Activity {
     pub active: u32,
     pub stretch: Stretch,

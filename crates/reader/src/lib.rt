@@ -1,4 +1,6 @@
 // A trace, read record by record.
+#![tactic(auto)]
+
 ghost use Rattle.std.specs.Prelude.{◌≡◌};
 ghost use Rattle.rules.specs.Reading as rule;
 ghost use Rattle.rules.specs.Reading.{fresh, ticks_due, record_read};

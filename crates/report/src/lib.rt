@@ -1,4 +1,6 @@
 // The report of a trace: from windows of the input into a lent output.
+#![tactic(auto)]
+
 ghost use Rattle.std.specs.Prelude.{◌≡◌, true, false, ◌+◌, ◌≤◌, length};
 ghost use Rattle.std.proofs.lemmas.List.Edits.{sets};
 ghost use Rattle.rules.specs.Reading.{ticks_due};
@@ -22,7 +24,7 @@ const FARTHEST: u64 = 18446744073709486078;
 
 // A report while it is written: the reading, where the applications stand, the byte at which the
 // next record starts, and whether the last line is written.
-#[derive(Drop)]
+#[derive(Clone, Copy)]
 pub struct Tally {
     pub reading: Reading,
     pub activities: [Activity; Table::APPS],
@@ -32,7 +34,7 @@ pub struct Tally {
 
 // What a call of the report answers: how many bytes of the window it took, how many bytes of the
 // output it wrote, and how far it has come.
-#[derive(Drop)]
+#[derive(Clone, Copy)]
 pub struct TallyTurn {
     pub taken: usize,
     pub written: usize,
@@ -40,7 +42,7 @@ pub struct TallyTurn {
 }
 
 // Where a call stands after a part of it, and whether it goes on.
-#[derive(Drop)]
+#[derive(Clone, Copy)]
 pub struct Acted {
     pub goes: bool,
     pub at: usize,

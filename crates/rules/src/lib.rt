@@ -1,1 +1,2 @@
 // Document 01 as definitions, in specs/; no code and no proof.
+#![tactic(auto)]

@@ -1,1 +1,2 @@
 // Laws only: what holds of the stretches of applications.
+#![tactic(auto)]

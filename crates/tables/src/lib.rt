@@ -1,4 +1,6 @@
 // Tables: what is refused of one, and the schedule that an admitted one begins.
+#![tactic(auto)]
+
 ghost use Rattle.std.specs.Prelude.{◌≡◌, ◌≤◌};
 ghost use Rattle.rules.specs.Limits.{max_threads, max_app, usual_period};
 ghost use Rattle.rules.specs.Table as rule;

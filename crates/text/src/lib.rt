@@ -1,6 +1,8 @@
 // Lines of the listing, as bytes in a lent slice. Each public function puts its line into out from
 // `at` on and answers the index after it; where out has fewer than LONGEST bytes from `at` on, it
 // writes nothing and answers `at`. The others are given room, and answer the index after their text.
+#![tactic(auto)]
+
 ghost use Rattle.std.specs.Prelude.{◌≡◌, not, [], ◌∷◌, ◌+◌, ◌<◌, ◌≤◌, leb, nat_abs, length};
 ghost use Rattle.std.specs.Int.Signed.{non_neg};
 ghost use Rattle.rules.specs.Listing as listing;

@@ -13,7 +13,7 @@ use quantities::{Amount, Moment, Stretch};
 pub const WIDE: usize = 128;
 
 // How a stretch ended: no thread was active any more, an idle tick cut it short, or it still holds.
-#[derive(Drop)]
+#[derive(Clone, Copy)]
 pub enum How {
     Over,
     Idle,

@@ -1,5 +1,7 @@
 // The records of a trace: what stands at the start of the rest of an input, and what the body of a
 // record says.
+#![tactic(auto)]
+
 ghost use Rattle.std.specs.Prelude.{◌≡◌, ◌+◌, ◌≤◌, ◌<◌, length};
 ghost use Rattle.rules.specs.Records.{Head, RunTo, Arrival, Completion, Drop, frame_of, decoded, le16, le32, moment, sized};
 ghost use Rattle.rules.specs.Records as rule;
