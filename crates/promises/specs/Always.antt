@@ -168,4 +168,4 @@ given_passed {s} g to =
 pub given_after : {s : State} → Given s → (cs : List Call) → Given (after s cs)
 unfolding after
 given_after g [] = g
-given_after g (c ∷ cs) = given_after (given_by g c) cs
+given_after {s = s} g (c ∷ cs) = given_after {s = apply s c} (given_by g c) cs

@@ -45,6 +45,11 @@ grant_in_time {u} {s} k g c ch =
     ap₂ (λ (v t : ℕ). v * (t + 1)) (sym (shares_then (ready_same s) k c ch.leads.inside)) (sym (ap (λ m. m.0) (ready_beside s).clock)) in
     parts_le _ _ (omega (arith, e, h, w))
 
+-- what is no tick
+event_in_time : (u : ℕ → ℕ) (a : Answer) (hs : List Happening) → All (EndsInTime u) hs → All (EndsInTime u) (if_done a hs)
+event_in_time u Done hs p = p
+event_in_time u (Refused n) hs p = none
+
 module _ {u : ℕ → ℕ} where
   tick_in_time : {s : State} → Shares u s → Good s → All (EndsInTime u) (tick_of s)
   unfolding tick_of
@@ -58,19 +63,14 @@ module _ {u : ℕ → ℕ} where
   ticks_in_time zero k g = none
   ticks_in_time (suc n) {s} k g = all_append (ticks_in_time n k g) (tick_in_time (shares_then (steps_same n s) k) (steps_good n g))
 
-  -- what is no tick
-  event_in_time : (a : Answer) (hs : List Happening) → All (EndsInTime u) hs → All (EndsInTime u) (if_done a hs)
-  event_in_time Done hs p = p
-  event_in_time (Refused n) hs p = none
-
   run_in_time : (a : Answer) (n : ℕ) {s : State} → Shares u s → Good s → All (EndsInTime u) (run_as a n s)
   run_in_time Done n k g = ticks_in_time n k g
   run_in_time (Refused m) n k g = none
 
   call_in_time : (c : Call) {s : State} → Shares u s → Good s → All (EndsInTime u) (happens s c)
-  call_in_time (calls.complete i) {s} k g = event_in_time (completion s i).answer (completed i s.clock.0 ∷ retiring s i) (more tt (retiring_all (EndsInTime u) (λ _ _ _ _. tt) s i))
-  call_in_time (calls.arrive i) {s} k g = event_in_time (arrival s i).answer _ (all_append (leavings_all (EndsInTime u) (λ _ _ _ _. tt) s) (all_append (waking_all (EndsInTime u) (λ _ _. tt) (gone s) i) (more tt none)))
-  call_in_time (calls.drop i) {s} k g = event_in_time (dropped s i).answer (dropped_to_head i s.clock.0 ∷ []) (more tt none)
+  call_in_time (calls.complete i) {s} k g = event_in_time u (completion s i).answer (completed i s.clock.0 ∷ retiring s i) (more tt (retiring_all (EndsInTime u) (λ _ _ _ _. tt) s i))
+  call_in_time (calls.arrive i) {s} k g = event_in_time u (arrival s i).answer _ (all_append (leavings_all (EndsInTime u) (λ _ _ _ _. tt) s) (all_append (waking_all (EndsInTime u) (λ _ _. tt) (gone s) i) (more tt none)))
+  call_in_time (calls.drop i) {s} k g = event_in_time u (dropped s i).answer (dropped_to_head i s.clock.0 ∷ []) (more tt none)
   call_in_time calls.step k g = tick_in_time k g
   call_in_time (calls.run to row) {s} k g = run_in_time (ran s to row).result.answer (to - s.clock.0) k g
 

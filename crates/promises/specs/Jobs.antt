@@ -174,6 +174,8 @@ completes {q} {u} {p} {g} t x a c q-min due whole before = go a.stage a.count c
   where
     go : {ph : Phase} {js : List Job} → Stage q u p g.previous x.w.0 x.e.0 ph js → x.jobs ≡ length js
         → Close q u p g.previous x.e.0 js → Completes q u p (complete_head q u t g js) (with x ph x.w.0 x.e.0)
+    go resting n e = elim e [ ]
+    go (ahead _) n e = elim e [ ]
     go (working j {js = []} k l) n (close _ c) = record {
       to_next = λ b. absurd (omega (arith, ltb-true 1 x.jobs b));
       to_wait = λ b. changed x a refl (ahead k);
