@@ -99,13 +99,13 @@ module _ (r : Reading) (e : Record) (d : ℕ) (due : ticks_due r e ≡ suc d) wh
   due_events = sym (t.place r) ∙ facts.0
 
   -- its moment
-  abbrev at_moment_lem : ℕ
-  at_moment_lem = (timed e r d due).0.0
+  abbrev its_moment : ℕ
+  its_moment = (timed e r d due).0.0
 
-  limits : (at_moment_lem ≤ clock_end) × (r.state.clock.0 ≤ at_moment_lem)
+  limits : (its_moment ≤ clock_end) × (r.state.clock.0 ≤ its_moment)
   limits = moment_done r.state (timed e r d due).0 (t.in_time r.state facts.1)
 
-  ahead : at_moment_lem - r.state.clock.0 ≡ suc d
+  ahead : its_moment - r.state.clock.0 ≡ suc d
   ahead = sym (t.ticks r.state) ∙ facts.2
 
   pub before_end : r.state.clock.0 < clock_end
@@ -122,11 +122,11 @@ module _ (r : Reading) (e : Record) (d : ℕ) (due : ticks_due r e ≡ suc d) wh
   z_before : before_ticks (stepped r.state).state e ≡ Done
   z_before = t.again r.state _ (step_same r.state).count (moment_is (stepped r.state).state (timed e r d due).0 limits.0 (omega (arith, clock, limits.1, ahead))) facts.1
 
-  z_left : at_moment_lem - (stepped r.state).state.clock.0 ≡ d
+  z_left : its_moment - (stepped r.state).state.clock.0 ≡ d
   z_left = omega (arith, clock, limits.1, ahead)
 
   z_ticks : ticks_before (stepped r.state).state e ≡ d
-  z_ticks = t.ticks _ ∙ z_left
+  z_ticks = t.ticks (stepped r.state).state ∙ z_left
 
   z_place : in_place after_tick e ≡ true
   z_place = t.place after_tick ∙ sym (t.place r) ∙ facts.0
