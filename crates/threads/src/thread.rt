@@ -67,6 +67,7 @@ pub fn at_rest(t: Thread) -> Thread
 }
 
 // Step 2 for one thread.
+#[tactic(auto, unfolding(rules::specs::Leaving::leave))]
 pub fn left(t: Thread, now: Moment) -> Thread
     requires { t.share ≤ max_q }
     ensures { result ≡ leave now.0 t }
@@ -97,6 +98,7 @@ pub fn left_unless(closed: bool, t: Thread, now: Moment) -> Thread
 }
 
 // Step 4 for one thread; room is Q − r of its application.
+#[tactic(auto, unfolding(rules::specs::Fitting::fit))]
 pub fn fit_one(t: Thread, room: u32) -> Thread
     requires { RowOk t }
     ensures { result ≡ fit room t }
