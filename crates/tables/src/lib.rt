@@ -9,6 +9,7 @@ ghost use Rattle.rules.specs.Table.{Done, meant, head_answer, row_answer, rows_a
 use quantities::{Amount, Answer, Answered, Moment, Phase, Row, State, Table, Thread};
 
 // What the head of a table answers; 1, 2.
+#[tactic(auto, unfolding(rules::specs::Table::head_answer))]
 pub fn head(q: u16, threads: u16) -> Answer
     ensures { result ≡ head_answer q threads }
 {
@@ -38,6 +39,7 @@ fn period_meant(p: u32) -> u32
 }
 
 // What a row answers after rows whose shares come to `before`; 3, 4, 5, 6, 7.
+#[tactic(auto, unfolding(rules::specs::Table::row_answer))]
 pub fn row(q: u16, before: u32, x: Row) -> Answer
     ensures { result ≡ row_answer usual_period q before x }
 {
