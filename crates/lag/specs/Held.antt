@@ -5,7 +5,7 @@ use native.Mathlib.Omega.{arith}
 use Rattle.std.proofs.Common.{eq-eqb}
 use Rattle.std.specs.Int.Signed.{lt_z}
 use Rattle.integers.specs.Parts.{up, dn, plus_parts, minus_parts, sub_parts, lt_z-true}
-use Rattle.rules.specs.Threads.{Thread, Phase, Inactive, Contending, NonContending, with_jobs, scaled, is_inactive, is_contending, is_non, contends, active, idle, loses}
+use Rattle.rules.specs.Threads.{Thread, Phase, Inactive, Contending, NonContending, with_jobs, scaled, is_inactive, is_contending, is_non, contends, idle, loses}
 use Rattle.rules.specs.Completion.{goes_on, stays, freed}
 use Rattle.rules.specs.Leaving.{leave}
 use Rattle.rules.specs.Arrival.{arrive_as, arrive}

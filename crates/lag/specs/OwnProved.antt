@@ -14,7 +14,7 @@ use Rattle.rules.specs.History.{Happening, leavings}
 use Rattle.rules.specs.Stretches.{Activity, quiet, app_of}
 use Rattle.stretches.specs.Item8.{now, past}
 use Rattle.promises.specs.Good.{Good, Fine, Ahead}
-use Rattle.promises.specs.Keep.{inside, fine_at}
+use Rattle.promises.specs.Keep.{fine_at}
 use Rattle.promises.specs.Begin.{start_good}
 use Rattle.promises.specs.Ready.{gone_beside, gone_good}
 use Rattle.promises.specs.Always.{after_good}

@@ -10,7 +10,7 @@ use Rattle.rules.specs.Step.{Grant, Idle, ready, stepped}
 use Rattle.rules.specs.Calls.{arrive, complete, step, after}
 use Rattle.rules.specs.Records.{Whole, Known, Arrival, frame_of, decoded, body_of, moment}
 use Rattle.rules.specs.Listing.{bytes, listing}
-use Rattle.marked.specs.Example.{number, amount, thread, answer, outcome, order, entries, framed, means, Example, example, Holds, minus, row, table_of, begin, table_says, w, e, see, look}
+use Rattle.marked.specs.Example.{number, amount, thread, answer, outcome, order, entries, framed, means, Example, example, Holds, minus, row, table_of, begin, table_says, w, see, look}
 use Rattle.marked.specs.Worked.{at0, at2, at5, at6, at7, at8, arrival_record, trace, text}
 
 -- "M1: after tick 1 of the run above, thread 0 has W = −4."

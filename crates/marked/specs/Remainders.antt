@@ -1,7 +1,7 @@
 -- Document 02, Item 3, in examples: deadlines in one whole tick, which only the remainders tell apart, each times the other's share.
 use Rattle.std.specs.Prelude.{refl, List, [], ◌∷◌, ℕ, pos}
 use Rattle.lists.specs.All.{All, none, more}
-use Rattle.rules.specs.Threads.{Thread, State, Contending, NonContending, Earlier, Equal, Later, amt, at, compare}
+use Rattle.rules.specs.Threads.{Thread, State, Contending, NonContending, Earlier, Equal, Later, amt, compare}
 use Rattle.rules.specs.Charge.{beneficiary}
 use Rattle.rules.specs.Step.{Grant, ready, stepped}
 use Rattle.rules.specs.Calls.{complete, arrive, step, after}

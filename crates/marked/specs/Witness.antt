@@ -10,7 +10,7 @@ use Rattle.rules.specs.Step as steps
 use Rattle.rules.specs.Step.{Idle, stepped}
 use Rattle.rules.specs.Calls.{Call, complete, arrive, drop, step, run, after}
 use Rattle.rules.specs.History.{Happening, completed, arrived, dropped_to_head, granted, idle_tick, became_active, Job, Finished, no_jobs, history, account}
-use Rattle.marked.specs.Example.{number, amount, thread, answer, outcome, entries, whole, happened, finished, Example, example, Holds, row, table_of, begin, table_says, w, e, look, refusals, table_refusal}
+use Rattle.marked.specs.Example.{number, amount, thread, answer, outcome, entries, whole, happened, finished, Example, example, Holds, row, table_of, begin, table_says, look, refusals, table_refusal}
 use Rattle.marked.specs.Worked.{table, at2}
 
 abbrev job : ℕ → ℕ → Job

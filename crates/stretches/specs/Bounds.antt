@@ -5,7 +5,7 @@ use Rattle.std.specs.Int.{w64}
 use Rattle.integers.specs.Parts.{up, dn, Sum, add_parts, Diff, sub_parts, sfits_parts}
 use Rattle.lists.specs.Sum.{sum_by}
 use Rattle.rules.specs.Limits.{max_q, apps, clock_end}
-use Rattle.rules.specs.Threads.{Thread, active, active_in}
+use Rattle.rules.specs.Threads.{Thread, active_in}
 use Rattle.rules.specs.Table.{Table}
 use Rattle.rules.specs.Stretches.{Activity, activity_at, elapsed, share_of, balance}
 use Rattle.promises.specs.Cases.{test}

@@ -1,6 +1,6 @@
 -- Records that change the jobs of one thread and nothing else: at the present moment, a drop, and an arrival of a contending
 -- thread once the moment is closed. They can be read one after the other without looking at the rest of the state.
-use Rattle.std.specs.Prelude.{◌≡◌, refl, Bool, true, false, cond, ◌&&◌, ℕ, ◌+◌, ◌-◌, ◌≤◌, ◌<◌, eqb, ltb, set}
+use Rattle.std.specs.Prelude.{◌≡◌, refl, Bool, true, false, cond, ◌&&◌, ℕ, ◌+◌, ◌≤◌, ◌<◌, eqb, ltb, set}
 use Rattle.std.proofs.Common.{sym, ap, ◌∙◌, subst, arith, ne_eqb, lt-ltb, le-ltb, eqb-true, ltb-true}
 use Rattle.std.proofs.Math.Decide.{dec_lt}
 use Rattle.rules.specs.Limits.{nobody, max_jobs, clock_end}

@@ -1,5 +1,5 @@
 -- What holds of every progress that calls gave: its reading is a given one.
-use Rattle.std.specs.Prelude.{◌≡◌, refl, Bool, ◌||◌, List, [], ◌∷◌, ◌++◌, ℕ, zero, suc, ◌+◌, ◌-◌, ltb, leb, length, drop}
+use Rattle.std.specs.Prelude.{◌≡◌, refl, Bool, ◌||◌, List, [], ◌∷◌, ◌++◌, ℕ, zero, suc, ◌-◌, ltb, leb, length, drop}
 use Rattle.std.proofs.Common.{sym, ap, ◌∙◌, subst, arith, eq-eqb, ne_eqb}
 use Rattle.rules.specs.Table.{Answer, Done, Refused}
 use Rattle.rules.specs.Run.{state_after}
