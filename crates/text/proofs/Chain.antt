@@ -1,13 +1,7 @@
 -- Texts that are put one after the other.
-use Prim.Native.Nat.{ℕ, ◌+◌, ◌≤◌}
-use native.Mathlib.Omega.{arith}
-use mathlib.Core.Path.{◌≡◌, sym, ap, ◌∙◌, subst}
-use mathlib.Core.Bool.{Bool, true, false, not}
-use mathlib.Core.List.{List, ◌++◌}
-use lib.Dec.{leb}
-use lib.ListN.{length, length-append}
-use lib.Seq.{sets}
-use borrow.Author.Tests.{leb-true, leb-false, not-true, not-false}
+use Rattle.std.proofs.Common.{◌≡◌, sym, ap, subst, ◌∙◌, Bool, true, false, List, ◌++◌, ℕ, ◌+◌, ◌≤◌, length, length-append, leb, arith}
+use Rattle.std.proofs.lemmas.List.Edits.{sets}
+use borrow.Author.Tests.{leb-true, leb-false}
 use Rattle.lists.specs.Sets.{sets_chain}
 use Rattle.text.specs.Room.{put_room, put_none}
 use Rattle.text.specs.Put.{Put, put_out, put_to, longest}
@@ -23,12 +17,12 @@ same_text {l} {l'} {i = i} {i'} e p = subst (λ (t : List ℕ). Put l i t l' i')
 
 -- ---- after the test for room
 module _ {b : Bool} (l : List ℕ) (i : ℕ) (e : b ≡ leb (i + longest) (length l)) where
-  pub room : not b ≡ false → i + longest ≤ length l
-  room h = leb-true _ _ (sym e ∙ not-false _ h)
+  pub room : b ≡ true → i + longest ≤ length l
+  room h = leb-true _ _ (sym e ∙ h)
 
   -- the contract of a text that was put, and of one for which there were not bytes enough
-  pub put : {l' t : List ℕ} {i' : ℕ} → not b ≡ false → Put l i t l' i' → (i' ≡ put_to l i t) × (l' ≡ put_out l i t)
+  pub put : {l' t : List ℕ} {i' : ℕ} → b ≡ true → Put l i t l' i' → (i' ≡ put_to l i t) × (l' ≡ put_out l i t)
   put {t = t} h p = let r = put_room l i t (room h) in (p.next ∙ sym r.0, p.stored ∙ sym r.1)
 
-  pub kept : (t : List ℕ) → not b ≡ true → (i ≡ put_to l i t) × (l ≡ put_out l i t)
-  kept t h = let r = put_none l i t (leb-false _ _ (sym e ∙ not-true _ h)) in (sym r.0, sym r.1)
+  pub kept : (t : List ℕ) → b ≡ false → (i ≡ put_to l i t) × (l ≡ put_out l i t)
+  kept t h = let r = put_none l i t (leb-false _ _ (sym e ∙ h)) in (sym r.0, sym r.1)

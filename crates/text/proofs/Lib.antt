@@ -1,3 +1,2 @@
 pub mod Chain
-pub mod Signs
 pub mod Broad
