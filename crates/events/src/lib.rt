@@ -62,6 +62,7 @@ fn staying(t: Thread) -> Thread
 }
 
 // Step 1, for the thread k.
+#[tactic(auto, unfolding(rules::specs::Completion::completing, rules::specs::Completion::gives, rules::specs::Threads::lose_at))]
 fn finish(s: State, k: usize) -> State
     requires { Steady s × (k < s.count) }
     ensures { result ≡ with_rows s (completing s.clock.0 s.count k (at s.threads k) s.threads) }
@@ -92,6 +93,7 @@ fn finish(s: State, k: usize) -> State
 }
 
 // The thread i completes the job at its head; 8, 10, 9.
+#[tactic(auto, unfolding(rules::specs::Completion::completion, rules::specs::Completion::after_completion))]
 pub fn complete(s: State, i: u16) -> Answered
     requires { Given s }
     ensures { result ≡ completion s i }
@@ -133,6 +135,7 @@ fn contending(t: Thread, jobs: u32, w: Amount, e: Amount) -> Thread
 }
 
 // Step 3 for one thread: a job more at the moment now.
+#[tactic(auto, unfolding(rules::specs::Arrival::arrive))]
 fn woken(t: Thread, now: Moment) -> Thread
     requires { RowOk t × (t.jobs < max_jobs) × (now.0 ≤ clock_end) }
     ensures { result ≡ arriving.arrive now.0 t }
@@ -152,6 +155,7 @@ fn woken(t: Thread, now: Moment) -> Thread
 }
 
 // A job of the thread i arrives; 8, 11.
+#[tactic(auto, using(promises::specs::Sound::given_sound), unfolding(rules::specs::Arrival::arrival))]
 pub fn arrive(s: State, i: u16) -> Answered
     requires { Given s }
     ensures { result ≡ arrival s i }
@@ -176,6 +180,7 @@ pub fn arrive(s: State, i: u16) -> Answered
 }
 
 // Only the job at the head is left.
+#[tactic(auto, unfolding(rules::specs::Drop::head_only))]
 fn head_only(t: Thread) -> Thread
     ensures { result ≡ head_only t }
 {
@@ -187,6 +192,7 @@ fn head_only(t: Thread) -> Thread
 }
 
 // The thread i keeps only the job at its head; 8.
+#[tactic(auto, using(promises::specs::Sound::given_sound), unfolding(rules::specs::Drop::dropped))]
 pub fn drop_waiting(s: State, i: u16) -> Answered
     requires { Given s }
     ensures { result ≡ dropped s i }
