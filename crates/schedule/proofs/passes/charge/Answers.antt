@@ -1,4 +1,4 @@
-use Rattle.std.proofs.Common.{◌≡◌, ◌+◌, ◌<◌, ℕ, List, refl, sym, ◌∙◌, ap, arith, le_antisymm, le_refl, lit<, get_or, set, pos}
+use Rattle.std.proofs.Common.{◌≡◌, ◌<◌, ℕ, List, refl, sym, ◌∙◌, ap, arith, le_antisymm, le_refl, lit<, get_or, set, pos}
 use Rattle.std.specs.Int.{w64}
 use Rattle.integers.specs.Parts.{small_add}
 use Rattle.rules.specs.Limits.{nobody}
@@ -63,7 +63,7 @@ loop-a-preserved c =
     let t = c.loop-a-test.true in
     let b = get_or c.args.best l.a 0 in
     elim c.if-a-own.branch [
-      then-a-own+then-b-ne-NOBODY w ↦ (
+      | then-a-own+then-b-ne-NOBODY w ↦ (
         omega (arith, t),
         w.z-is
             ∙ ap (λ (y : Thread). with_rows l.z (set l.z.threads b y)) (w.lighter-y.ensures ∙ ap (λ (m : Amount). loses m.0 (at l.z.threads b)) w.amount_of.ensures)

@@ -1,4 +1,4 @@
-use Rattle.std.proofs.Common.{◌≡◌, ◌+◌, ◌<◌, ℕ, refl, sym, ◌∙◌, arith, length, length-set}
+use Rattle.std.proofs.Common.{◌+◌, ◌<◌, ℕ, refl, sym, ◌∙◌, arith, length, length-set}
 use Rattle.std.proofs.Math.ListN.{get_or-replicate}
 use Rattle.lists.specs.Sum.{sum_none}
 use Rattle.rules.specs.Threads.{State, at, free_share}
