@@ -1,4 +1,4 @@
-// The schedule's calls for C and Rust, linked as a static library. A state goes in and out by value;
+// The schedule's calls for C and Rust, which `capi_c` exports. A state goes in and out by value;
 // in place of an enum, which cannot cross, stands a number.
 #![tactic(auto)]
 
@@ -201,39 +201,34 @@ fn step_thread(o: Outcome) -> u16
     }
 }
 
-#[unsafe(no_mangle)]
-pub extern "C" fn bollardine_begin(t: Table) -> OutAnswered
+pub fn bollardine_begin(t: Table) -> OutAnswered
     ensures { result ≡ crossed (opening usual_period t) }
 {
     answer_out(tables::begin(t))
 }
 
-#[unsafe(no_mangle)]
-pub extern "C" fn bollardine_complete(s: OutState, i: u16) -> OutAnswered
+pub fn bollardine_complete(s: OutState, i: u16) -> OutAnswered
     requires { Given (inside_state s) }
     ensures { result ≡ crossed (completion (inside_state s) i) }
 {
     answer_out(events::complete(state_in(s), i))
 }
 
-#[unsafe(no_mangle)]
-pub extern "C" fn bollardine_arrive(s: OutState, i: u16) -> OutAnswered
+pub fn bollardine_arrive(s: OutState, i: u16) -> OutAnswered
     requires { Given (inside_state s) }
     ensures { result ≡ crossed (arrival (inside_state s) i) }
 {
     answer_out(events::arrive(state_in(s), i))
 }
 
-#[unsafe(no_mangle)]
-pub extern "C" fn bollardine_drop(s: OutState, i: u16) -> OutAnswered
+pub fn bollardine_drop(s: OutState, i: u16) -> OutAnswered
     requires { Given (inside_state s) }
     ensures { result ≡ crossed (dropped (inside_state s) i) }
 {
     answer_out(events::drop_waiting(state_in(s), i))
 }
 
-#[unsafe(no_mangle)]
-pub extern "C" fn bollardine_step(s: OutState) -> OutStepped
+pub fn bollardine_step(s: OutState) -> OutStepped
     requires { Given (inside_state s) }
     ensures { result ≡ crossed_step (stepped (inside_state s)) }
 {
@@ -248,16 +243,14 @@ pub extern "C" fn bollardine_step(s: OutState) -> OutStepped
     }
 }
 
-#[unsafe(no_mangle)]
-pub extern "C" fn bollardine_run(s: OutState, to: u32, row: &mut [u16]) -> OutAnswered
+pub fn bollardine_run(s: OutState, to: u32, row: &mut [u16]) -> OutAnswered
     requires { Given (inside_state s) }
     ensures { (result ≡ crossed (ran (inside_state s) to row.old).result) × (row.new ≡ (ran (inside_state s) to row.old).row) }
 {
     answer_out(schedule::step::run(state_in(s), Moment(to), row))
 }
 
-#[unsafe(no_mangle)]
-pub extern "C" fn bollardine_free_share(s: OutState, a: u16) -> u32
+pub fn bollardine_free_share(s: OutState, a: u16) -> u32
     requires { Given (inside_state s) }
     ensures { result ≡ free_of a (inside_state s) }
 {

@@ -1,0 +1,18 @@
+use Rattle.std.proofs.Common.{◌≡◌, ◌++◌, ap, ◌∙◌, map, take, drop, set, replicate, length, arith}
+use Rattle.std.proofs.lemmas.List.{length-replicate}
+use Rattle.lists.specs.MapTo.{length_mapped}
+use Rattle.lists.specs.Row.{map_row}
+use Rattle.capi.specs.Crossing.{outside}
+use Rattle.capi.proofs.state_out.Goals as goal
+
+pub loop-i-preserved : goal.loop-i-preserved
+loop-i-preserved c =
+    let l = c.loop-i in
+    let xs = c.args.s.threads in
+    let v = c.thread_out-threads.result in
+    let n : length xs ≡ 64 = search length_mapped in (
+      omega arith,
+      ap (λ r. set r l.i c.thread_out.result) l.invariant.1
+          ∙ ap (λ x. set (map outside (take l.i xs) ++ drop l.i (replicate 64 v)) l.i x) c.thread_out.ensures
+          ∙ map_row outside xs (replicate 64 v) l.i _ v (omega arith) (omega (arith, length-replicate 64 v)),
+    )

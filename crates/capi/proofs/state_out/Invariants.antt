@@ -1,0 +1,10 @@
+use Rattle.std.proofs.Common.{◌≡◌, ◌≤◌, ◌-◌, ◌++◌, map, take, drop}
+use Rattle.capi.specs.Crossing.{outside}
+use Rattle.capi.proofs.state_out.Given as goal
+
+-- the first i threads stand in their places
+abbrev pub invariant-loop-i : goal.invariant-loop-i
+invariant-loop-i l = (l.i ≤ 64) × (l.threads ≡ map outside (take l.i l.s.threads) ++ drop l.i l.initial.threads)
+
+abbrev pub decreases-loop-i : goal.decreases-loop-i
+decreases-loop-i l = 64 - l.i
