@@ -10,6 +10,7 @@ use quantities::{Activity, Amount, Moment, Stretch, Table};
 use threads::amounts::add;
 
 // A thread of it becomes active: the first begins a stretch.
+#[tactic(auto, unfolding(rules::specs::Stretches::wakes))]
 pub fn woken(c: Activity, now: Moment) -> Activity
     requires { c.active ≤ 64 }
     ensures { result ≡ wakes now.0 c }
@@ -33,6 +34,7 @@ pub fn woken(c: Activity, now: Moment) -> Activity
 }
 
 // It is granted a tick.
+#[tactic(auto, unfolding(rules::specs::Stretches::runs))]
 pub fn served(c: Activity) -> Activity
     requires { c.stretch.granted ≤ clock_end }
     ensures { result ≡ runs c }
@@ -46,6 +48,7 @@ pub fn served(c: Activity) -> Activity
 }
 
 // A thread of it becomes inactive, and z is lost.
+#[tactic(auto, unfolding(rules::specs::Stretches::rests))]
 pub fn rested(c: Activity, z: Amount) -> Activity
     requires { (0 < c.active) × SFits w64 (c.stretch.lost.0 +ℤ z.0) }
     ensures { result ≡ rests z.0 c }
@@ -61,6 +64,7 @@ pub fn rested(c: Activity, z: Amount) -> Activity
 }
 
 // No thread of it is active any more.
+#[tactic(auto, unfolding(rules::specs::Stretches::forgets))]
 pub fn forgotten(c: Activity) -> Activity
     ensures { result ≡ forgets c }
 {
