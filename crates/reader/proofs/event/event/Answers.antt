@@ -1,14 +1,14 @@
-use Rattle.std.proofs.Common.{◌≡◌, sym, ap, ◌∙◌, subst, true}
+use Rattle.std.proofs.Common.{◌≡◌, sym, ap, ◌∙◌, subst}
 use Rattle.rules.specs.Threads.{State}
 use Rattle.rules.specs.Table.{Answered, Done}
 use Rattle.rules.specs.Run.{state_after, passed}
 use Rattle.rules.specs.Calls.{Given}
 use Rattle.rules.specs.Records.{Moment, Record}
-use Rattle.rules.specs.Reading.{Reading, at_events, ticks_before, at_its_moment, event_of}
+use Rattle.rules.specs.Reading.{Reading, ticks_before, at_its_moment, event_of}
 use Rattle.rules.specs.Input.{GivenReading}
 use Rattle.promises.specs.Always.{given_good, given_steps}
 use Rattle.windows.specs.Readings.{given_reading}
-use Rattle.reader.specs.Parts.{before_at, moment_of, ahead, passed_at, out_of_place, refused_before, refused_then, taken_then}
+use Rattle.reader.specs.Parts.{before_at, moment_of, ahead, passed_at, refused_before, refused_then, taken_then}
 use Rattle.reader.proofs.event.event.Goals as goal
 
 -- the ticks before the event's moment are run
