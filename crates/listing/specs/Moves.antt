@@ -7,7 +7,7 @@ use borrow.Author.Tests.{eq-eqb, ne_eqb, lt-ltb, le-ltb, le-leb, lt-leb}
 use Rattle.std.proofs.Math.ListN.{length}
 use Rattle.rules.specs.Limits.{nobody, max_jobs}
 use Rattle.rules.specs.Threads.{at}
-use Rattle.rules.specs.Table.{Answer, Done, Refused}
+use Rattle.rules.specs.Table.{Answer, Done}
 use Rattle.rules.specs.Records.{Frame, Ended, Cut, Whole, Record, Decoded, Known, frame_of, body_of, decoded}
 use Rattle.rules.specs.Records as records
 use Rattle.rules.specs.Reading.{Reading, with_state, ticks_due, record_read}
