@@ -8,6 +8,10 @@ ghost use Rattle.capacity.specs.Shell.{Good, Enough, Ready, opened, stopped, aft
 ghost use Rattle.capacity.specs.Reached.{Reached};
 
 use report::{Tally, TallyTurn};
+use std::env::{Env, FillError};
+use std::fs::Files;
+use std::io::{ErrorKind, Read};
+use std::{fs, io, str};
 
 // A report while the program runs: how far it has come, the part of the buffer that holds what was
 // read and not yet taken, whether the input has ended there, whether more of it is wanted, and
@@ -37,6 +41,14 @@ fn shift(buf: &mut [u8], from: usize, to: usize)
     }
 }
 
+// Says what failed and why; not that whoever reads the output wants no more of it.
+fn fail(rt: &impl Eprint, what: &str, e: io::Error) {
+    if e.kind() == ErrorKind::BrokenPipe {
+        return;
+    }
+    let _ = eprintln!(rt; "{what}: {e}");
+}
+
 fn ended(s: Shell) -> Shell
     ensures { result ≡ stopped s }
 {
@@ -46,7 +58,7 @@ fn ended(s: Shell) -> Shell
 }
 
 // Reads on behind what is left of the input, where more is wanted.
-fn fill(fd: i32, buf: &mut [u8], s: Shell) -> Shell
+fn fill(rt: &impl Eprint, from: &mut impl Read, buf: &mut [u8], s: Shell) -> Shell
     requires good { Good (length buf.old) s }
     requires going_value { s.going ≡ true }
     ensures good_2 { Good (length buf.old) result }
@@ -60,12 +72,13 @@ fn fill(fd: i32, buf: &mut [u8], s: Shell) -> Shell
     }
     let kept = s.end - s.start;
     shift(buf, s.start, s.end);
-    let got = libc::read(fd, &mut buf[kept..]);
-    if got < 0 {
-        os::fail(b"capacity: cannot read");
-        return ended(s);
-    }
-    let n = io::count(got, &buf[kept..]);
+    let n = match from.read(&mut buf[kept..]) {
+        Ok(n) => n,
+        Err(e) => {
+            fail(rt, "capacity: cannot read", e);
+            return ended(s);
+        }
+    };
     let p = s.tally;
     Shell {
         tally: p,
@@ -78,7 +91,7 @@ fn fill(fd: i32, buf: &mut [u8], s: Shell) -> Shell
 }
 
 // Writes the text of the call t, all that is handed over, and goes on to where the call brought f.
-fn say(text: &[u8], buf: &[u8], f: Shell, t: TallyTurn) -> Shell
+fn say(rt: &(impl Print + Eprint), text: &[u8], buf: &[u8], f: Shell, t: TallyTurn) -> Shell
     requires { Said text.now buf.now f t }
     ensures { StopsOr (after f t) result (result ≡ after f t) }
 {
@@ -95,27 +108,30 @@ fn say(text: &[u8], buf: &[u8], f: Shell, t: TallyTurn) -> Shell
         hungry: still,
         going: !q.done,
     };
-    if !io::write_all(1, text) {
-        os::fail(b"capacity: cannot write");
+    if let Err(e) = rt.write_all(text) {
+        fail(rt, "capacity: cannot write", e);
         return ended(z);
     }
     if still && f.last && z.going {
-        io::write_all(
-            2,
-            b"capacity: the input is too long for its bytes to be numbered\n",
-        );
+        let _ = rt.eprintln("capacity: the input is too long for its bytes to be numbered");
         return ended(z);
     }
     z
 }
 
 // One call of the report, whose text stands at the start of out, and is written.
-fn turn(fd: i32, buf: &mut [u8], out: &mut [u8], s: Shell) -> Shell
+fn turn(
+    rt: &(impl Print + Eprint),
+    from: &mut impl Read,
+    buf: &mut [u8],
+    out: &mut [u8],
+    s: Shell,
+) -> Shell
     requires { Ready (length buf.old) (length out.old) s }
     ensures good { Good (length buf.old) result }
     ensures stops_or { StopsOr s result (Turned buf.old buf.new out.old out.new s result) }
 {
-    let f = fill(fd, buf, s);
+    let f = fill(rt, from, buf, s);
     if !f.going {
         return f;
     }
@@ -124,11 +140,11 @@ fn turn(fd: i32, buf: &mut [u8], out: &mut [u8], s: Shell) -> Shell
     let p = f.tally;
     let t = report::advance(&buf[start..end], f.last, p, out);
     let written = t.written;
-    say(&out[0..written], buf, f, t)
+    say(rt, &out[0..written], buf, f, t)
 }
 
 // Writes the heading line, all that is handed over, and begins a report.
-fn begin(text: &[u8]) -> Shell
+fn begin(rt: &(impl Print + Eprint), text: &[u8]) -> Shell
     requires { text.now ≡ report_heading }
     ensures { StopsOr opened result (result ≡ opened) }
 {
@@ -141,69 +157,86 @@ fn begin(text: &[u8]) -> Shell
         hungry: true,
         going: true,
     };
-    if !io::write_all(1, text) {
-        os::fail(b"capacity: cannot write");
+    if let Err(e) = rt.write_all(text) {
+        fail(rt, "capacity: cannot write", e);
         return ended(s);
     }
     s
 }
 
-// The report of what the descriptor holds.
-fn tell(fd: i32, buf: &mut [u8], out: &mut [u8]) -> Shell
+// The report of what is read.
+fn tell(rt: &(impl Print + Eprint), from: &mut impl Read, buf: &mut [u8], out: &mut [u8]) -> Shell
     requires { Enough (length buf.old) (length out.old) }
     ensures { Reached result }
 {
     let h = text::report::report_heading(out, 0);
-    let mut s = begin(&out[0..h]);
+    let mut s = begin(rt, &out[0..h]);
     // the number of turns bounds the loop for the proof, and is never reached
     let mut n: u64 = 0;
     while n < u64::MAX && s.going {
-        s = turn(fd, buf, out, s);
+        s = turn(rt, from, buf, out, s);
         n += 1;
     }
     s
 }
 
 // The file that the argument names; `-` is standard input.
-fn named(buf: &mut [u8], out: &mut [u8])
+fn named<R: Env + Files + Input + Print + Eprint>(rt: &R, buf: &mut [u8], out: &mut [u8])
     requires { Enough (length buf.old) (length out.old) }
 {
-    let mut path = io::buffer();
-    let n = os::arg(1, &mut path);
-    if os::errno() != 0 {
-        os::fail(b"capacity: the file's name");
-        return;
-    }
+    let mut path = [0u8; 4096];
+    let n = match rt.arg(1, &mut path) {
+        Ok(n) => n,
+        Err(_) => {
+            let _ = rt.eprintln("capacity: the file's name: File name too long");
+            return;
+        }
+    };
     if n == 1 && path[0] == b'-' {
-        tell(0, buf, out);
+        tell(rt, &mut rt.reader(), buf, out);
         return;
     }
-    let fd = os::open_read(&path[0..n]);
-    if fd < 0 {
-        os::fail(&path[0..n]);
-        return;
+    let name = match str::from_utf8(&path[0..n]) {
+        Ok(name) => name,
+        Err(_) => {
+            let _ = rt.eprintln("capacity: the file's name: it is not UTF-8");
+            return;
+        }
+    };
+    match fs::open(rt, name) {
+        Ok(mut file) => {
+            tell(rt, &mut file, buf, out);
+        }
+        Err(e) => fail(rt, name, e),
     }
-    tell(fd, buf, out);
-    libc::close(fd);
 }
 
-fn serve(buf: &mut [u8], out: &mut [u8])
+// Whether there is an argument i.
+fn has_arg(rt: &impl Env, i: usize) -> bool {
+    let mut none = [0u8; 1];
+    match rt.arg(i, &mut none) {
+        Ok(_) => true,
+        Err(FillError::TooLong) => true,
+        Err(FillError::NotPresent) => false,
+    }
+}
+
+fn serve<R: Env + Files + Input + Print + Eprint>(rt: &R, buf: &mut [u8], out: &mut [u8])
     requires { Enough (length buf.old) (length out.old) }
 {
-    let n = os::arg_count();
-    if n < 2 {
-        tell(0, buf, out);
+    if !has_arg(rt, 1) {
+        tell(rt, &mut rt.reader(), buf, out);
         return;
     }
-    if n > 2 {
-        io::write_all(2, b"usage: capacity [FILE]\n");
+    if has_arg(rt, 2) {
+        let _ = rt.eprintln("usage: capacity [FILE]");
         return;
     }
-    named(buf, out);
+    named(rt, buf, out);
 }
 
-fn main() {
+fn main(rt: HostRuntime) {
     let mut buf = [0u8; 131072];
     let mut out = [0u8; 65536];
-    serve(&mut buf, &mut out);
+    serve(&rt, &mut buf, &mut out);
 }

@@ -8,11 +8,11 @@ use quantities::{Moment, State, Table};
 use schedule::step;
 
 // So many threads of share 1 that fill the processor.
-pub fn begun(threads: u16) -> State
+pub fn begun(rt: &impl Print, threads: u16) -> State
     ensures { Given result }
 {
-    number(b"threads ", threads as u64);
-    end_line();
+    number(rt, b"threads ", threads as u64);
+    end_line(rt);
     let a = tables::begin(alike(threads, threads, row_of(0, 1, threads as u32)));
     a.state
 }
@@ -27,74 +27,74 @@ fn jobs(s: State, i: u16) -> u32 {
     t.jobs
 }
 
-pub fn arrival(s: State, i: u16) -> State
+pub fn arrival(rt: &impl Print, s: State, i: u16) -> State
     requires { Given s }
     ensures { Given result }
 {
     let a = arrive(s, i);
     let r = a.answer;
     let z = a.state;
-    event(s.clock.0, b", arrival of thread ", i, r, jobs(z, i));
+    event(rt, s.clock.0, b", arrival of thread ", i, r, jobs(z, i));
     z
 }
 
-pub fn completion(s: State, i: u16) -> State
+pub fn completion(rt: &impl Print, s: State, i: u16) -> State
     requires { Given s }
     ensures { Given result }
 {
     let a = complete(s, i);
     let r = a.answer;
     let z = a.state;
-    event(s.clock.0, b", completion of thread ", i, r, jobs(z, i));
+    event(rt, s.clock.0, b", completion of thread ", i, r, jobs(z, i));
     z
 }
 
-pub fn dropping(s: State, i: u16) -> State
+pub fn dropping(rt: &impl Print, s: State, i: u16) -> State
     requires { Given s }
     ensures { Given result }
 {
     let a = drop_waiting(s, i);
     let r = a.answer;
     let z = a.state;
-    event(s.clock.0, b", drop of thread ", i, r, jobs(z, i));
+    event(rt, s.clock.0, b", drop of thread ", i, r, jobs(z, i));
     z
 }
 
-pub fn tick(s: State) -> State
+pub fn tick(rt: &impl Print, s: State) -> State
     requires { Given s }
     ensures { Given result }
 {
     let a = step::step(s);
     let o = a.outcome;
     let z = a.state;
-    crate::say::step(s.clock.0, o);
-    clock(z.clock.0);
+    crate::say::step(rt, s.clock.0, o);
+    clock(rt, z.clock.0);
     z
 }
 
 // A run into a lent row, with all of the row after it.
-pub fn run_into(s: State, to: u32, row: &mut [u16]) -> State
+pub fn run_into(rt: &impl Print, s: State, to: u32, row: &mut [u16]) -> State
     requires { Given s }
     ensures { Given result }
 {
     let a = step::run(s, Moment(to), row);
     let r = a.answer;
     let z = a.state;
-    crate::say::run(s.clock.0, b", run to ", to, r);
-    entries(row);
-    clock(z.clock.0);
+    crate::say::run(rt, s.clock.0, b", run to ", to, r);
+    entries(rt, row);
+    clock(rt, z.clock.0);
     z
 }
 
 // A run for which no row is lent.
-pub fn passing(s: State, to: u32) -> State
+pub fn passing(rt: &impl Print, s: State, to: u32) -> State
     requires { Given s }
     ensures { Given result }
 {
     let a = step::pass(s, Moment(to));
     let r = a.answer;
     let z = a.state;
-    crate::say::run(s.clock.0, b", run without a row to ", to, r);
-    clock(z.clock.0);
+    crate::say::run(rt, s.clock.0, b", run without a row to ", to, r);
+    clock(rt, z.clock.0);
     z
 }

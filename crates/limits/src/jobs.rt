@@ -7,12 +7,12 @@ use events::arrive;
 use quantities::State;
 
 // So many arrivals of thread 0, without a line for each.
-fn arrivals(s: State, n: u32) -> State
+fn arrivals(rt: &impl Print, s: State, n: u32) -> State
     requires { Given s }
     ensures { Given result }
 {
-    number(b"arrivals of thread 0: ", n as u64);
-    end_line();
+    number(rt, b"arrivals of thread 0: ", n as u64);
+    end_line(rt);
     let mut z = s;
     let mut k: u32 = 0;
     while k < n {
@@ -23,19 +23,19 @@ fn arrivals(s: State, n: u32) -> State
     z
 }
 
-pub fn run() {
-    let s = arrivals(begun(1), 65534);
-    let s = arrival(s, 0);
-    let s = arrival(s, 0);
+pub fn run(rt: &impl Print) {
+    let s = arrivals(rt, begun(rt, 1), 65534);
+    let s = arrival(rt, s, 0);
+    let s = arrival(rt, s, 0);
     // a completed job counts no longer; a refused arrival does not close the moment
-    let s = tick(s);
-    let s = arrival(s, 0);
-    let s = completion(s, 0);
-    let s = arrival(s, 0);
-    let s = arrival(s, 0);
+    let s = tick(rt, s);
+    let s = arrival(rt, s, 0);
+    let s = completion(rt, s, 0);
+    let s = arrival(rt, s, 0);
+    let s = arrival(rt, s, 0);
     // nor do dropped ones
-    let s = dropping(s, 0);
-    let s = arrivals(s, 65533);
-    let s = arrival(s, 0);
-    arrival(s, 0);
+    let s = dropping(rt, s, 0);
+    let s = arrivals(rt, s, 65533);
+    let s = arrival(rt, s, 0);
+    arrival(rt, s, 0);
 }

@@ -23,46 +23,46 @@ fn late(t: u32) -> State
 }
 
 // A tick without an answer: at the clock's end nothing changes.
-fn next(s: State) -> State
+fn next(rt: &impl Print, s: State) -> State
     requires { Given s }
     ensures { Given result }
 {
     let z = step::next(s);
-    number(b"next after ", s.clock.0 as u64);
-    clock(z.clock.0);
+    number(rt, b"next after ", s.clock.0 as u64);
+    clock(rt, z.clock.0);
     z
 }
 
-fn steps() {
-    let s = tick(late(2147483646));
-    tick(s);
-    let s = next(late(2147483646));
-    next(s);
+fn steps(rt: &impl Print) {
+    let s = tick(rt, late(2147483646));
+    tick(rt, s);
+    let s = next(rt, late(2147483646));
+    next(rt, s);
 }
 
 // Events are taken at the last moment too.
-fn events() {
-    let s = arrival(late(2147483646), 0);
-    let s = tick(s);
-    let s = completion(s, 0);
-    let s = arrival(s, 0);
-    tick(s);
+fn events(rt: &impl Print) {
+    let s = arrival(rt, late(2147483646), 0);
+    let s = tick(rt, s);
+    let s = completion(rt, s, 0);
+    let s = arrival(rt, s, 0);
+    tick(rt, s);
 }
 
-fn runs() {
+fn runs(rt: &impl Print) {
     let mut one = [7u16; 1];
     let mut same = [7u16; 1];
-    let s = run_into(late(2147483646), 2147483648, &mut one);
-    let s = run_into(s, 2147483647, &mut one);
-    let s = run_into(s, 2147483647, &mut same);
-    run_into(s, 2147483646, &mut same);
-    let s = passing(late(2147483646), 2147483648);
-    let s = passing(s, 2147483647);
-    passing(s, 4294967295);
+    let s = run_into(rt, late(2147483646), 2147483648, &mut one);
+    let s = run_into(rt, s, 2147483647, &mut one);
+    let s = run_into(rt, s, 2147483647, &mut same);
+    run_into(rt, s, 2147483646, &mut same);
+    let s = passing(rt, late(2147483646), 2147483648);
+    let s = passing(rt, s, 2147483647);
+    passing(rt, s, 4294967295);
 }
 
-pub fn run() {
-    steps();
-    events();
-    runs();
+pub fn run(rt: &impl Print) {
+    steps(rt);
+    events(rt);
+    runs(rt);
 }

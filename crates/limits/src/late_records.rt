@@ -28,23 +28,24 @@ fn read_late(t: u32) -> Reading
 }
 
 // A record with the moment t; what it says stands beside it.
-fn taking(r: Reading, what: &[u8], t: u32, e: Record) -> Reading
+fn taking(rt: &impl Print, r: Reading, what: &[u8], t: u32, e: Record) -> Reading
     requires { GivenReading r }
     ensures { GivenReading result }
 {
     let x = reader::record(r, e);
     let a = x.answer;
     let z = x.reading;
-    crate::say::run(r.state.clock.0, what, t, a);
-    clock(z.state.clock.0);
+    crate::say::run(rt, r.state.clock.0, what, t, a);
+    clock(rt, z.state.clock.0);
     z
 }
 
-fn arrival(r: Reading, t: u32) -> Reading
+fn arrival(rt: &impl Print, r: Reading, t: u32) -> Reading
     requires { GivenReading r }
     ensures { GivenReading result }
 {
     taking(
+        rt,
         r,
         b", record of an arrival at ",
         t,
@@ -52,18 +53,18 @@ fn arrival(r: Reading, t: u32) -> Reading
     )
 }
 
-fn run_to(r: Reading, t: u32) -> Reading
+fn run_to(rt: &impl Print, r: Reading, t: u32) -> Reading
     requires { GivenReading r }
     ensures { GivenReading result }
 {
-    taking(r, b", record of a run to ", t, Record::RunTo(Moment(t)))
+    taking(rt, r, b", record of a run to ", t, Record::RunTo(Moment(t)))
 }
 
-pub fn run() {
-    let r = arrival(read_late(2147483646), 2147483648);
-    let r = arrival(r, 2147483645);
-    let r = arrival(r, 2147483646);
-    let r = run_to(r, 2147483648);
-    let r = run_to(r, 2147483647);
-    arrival(r, 2147483647);
+pub fn run(rt: &impl Print) {
+    let r = arrival(rt, read_late(2147483646), 2147483648);
+    let r = arrival(rt, r, 2147483645);
+    let r = arrival(rt, r, 2147483646);
+    let r = run_to(rt, r, 2147483648);
+    let r = run_to(rt, r, 2147483647);
+    arrival(rt, r, 2147483647);
 }

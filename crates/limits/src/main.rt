@@ -13,12 +13,12 @@ mod records;
 mod runs;
 mod say;
 
-fn main() {
-    admission::run();
-    completions::run();
-    jobs::run();
-    runs::run();
-    late::run();
-    late_records::run();
-    records::run();
+fn main(rt: HostRuntime) {
+    admission::run(&rt);
+    completions::run(&rt);
+    jobs::run(&rt);
+    runs::run(&rt);
+    late::run(&rt);
+    late_records::run(&rt);
+    records::run(&rt);
 }
