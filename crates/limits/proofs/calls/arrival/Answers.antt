@@ -1,0 +1,6 @@
+use Rattle.rules.specs.Calls as calls
+use Rattle.promises.specs.Always.{given_by}
+use Rattle.limits.proofs.calls.arrival.Goals as goal
+
+pub returns : goal.returns
+returns g c = rw c.arrive-a.ensures (given_by c.requires (calls.arrive _))

@@ -1,0 +1,6 @@
+use Rattle.rules.specs.Calls as calls
+use Rattle.promises.specs.Always.{given_by}
+use Rattle.limits.proofs.calls.run_into.Goals as goal
+
+pub returns : goal.returns
+returns g c = rw c.run-a.ensures.0 (given_by c.requires (calls.run _ _))
