@@ -1,4 +1,4 @@
-use Rattle.std.proofs.Common.{◌≡◌, ◌-◌, ◌≤◌, List, ℕ, length, take, ap, ◌∙◌, sym, subst, arith}
+use Rattle.std.proofs.Common.{◌≡◌, ◌-◌, ◌≤◌, List, ℕ, length, take, ◌∙◌, sym, subst, arith}
 use Rattle.rules.specs.Listing.{heading}
 use Rattle.text.specs.Laws.{heading_longest}
 use Rattle.text.specs.Put.{put_to, put_out, longest}

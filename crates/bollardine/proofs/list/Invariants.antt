@@ -1,4 +1,4 @@
-use Rattle.std.proofs.Common.{◌≡◌, ◌-◌, length}
+use Rattle.std.proofs.Common.{◌-◌, length}
 use Rattle.bollardine.specs.Shell.{Good}
 use Rattle.bollardine.specs.Reached.{Fed}
 use Rattle.bollardine.proofs.list.Given as goal
