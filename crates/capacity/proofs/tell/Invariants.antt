@@ -1,4 +1,4 @@
-use Rattle.std.proofs.Common.{◌≡◌, ◌-◌, length}
+use Rattle.std.proofs.Common.{◌-◌, length}
 use Rattle.capacity.specs.Shell.{Good}
 use Rattle.capacity.specs.Reached.{Fed}
 use Rattle.capacity.proofs.tell.Given as goal

@@ -1,4 +1,4 @@
-use Rattle.std.proofs.Common.{length, arith}
+use Rattle.std.proofs.Common.{arith}
 use borrow.Author.Tests.{not-false}
 use Rattle.capacity.specs.Shell.{made}
 use Rattle.capacity.specs.Kept.{has_read, stands, handed, call_turned, turned_said, good_said}
