@@ -8,82 +8,77 @@ import subprocess
 import sys
 
 HEADER = """\
-use mathlib.Core.Path.{_≡_, refl}
-use mathlib.Core.Bool.{Bool, true, false, cond}
-use mathlib.Core.List.{List, [], _∷_, _++_}
-use Prim.Native.Nat.{ℕ, zero, suc, _+_}
-use lib.IntN.{ℤ, pos, negsuc}
-use lib.ListN.{length, drop, take, getD, set}
-use Rattle·lists.specs.Sum.{sumBy}
-use Rattle·lists.specs.MapTo.{mapTo}
-use Rattle·rules.specs.Threads.{State, Thread, Phase, Inactive, Contending, NonContending, Amount, amt, blank, freeShare, earliest, loseAt}
-use Rattle·rules.specs.Table as table
-use Rattle·rules.specs.Table.{Row, Table, Answer, Done, headAnswer, rowAnswer, sharesTo, rowsAnswer, tableAnswer, openedTo, start, opening}
-use Rattle·rules.specs.Completion.{gives, completing, afterCompletion, completion}
-use Rattle·rules.specs.Leaving.{leave, gone}
-use Rattle·rules.specs.Arrival.{arrival}
-use Rattle·rules.specs.Arrival as arriving
-use Rattle·rules.specs.Drop.{headOnly, dropped}
-use Rattle·rules.specs.Fitting.{fit, fitted}
-use Rattle·rules.specs.Choice.{idled}
-use Rattle·rules.specs.Charge.{benefits, charged, moved}
-use Rattle·rules.specs.Step.{Outcome, Grant, Idle, stepped}
-use Rattle·rules.specs.Step as tick
-use Rattle·rules.specs.Run.{stateAfter, rowAfter, ran}
-use Rattle·rules.specs.Calls as calls
-use Rattle·rules.specs.Calls.{Call, complete, step, run, apply}
+use Rattle.std.specs.Prelude.{◌≡◌, refl, Bool, true, false, cond, List, [], ◌∷◌, ◌++◌, ℕ, zero, suc, ℤ, pos, negsuc, take, drop}
+use Rattle.lists.specs.Sum.{sum_by}
+use Rattle.lists.specs.MapTo.{map_to}
+use Rattle.rules.specs.Threads.{State, Thread, Phase, Inactive, Contending, NonContending, Amount, amt, blank, free_share, earliest, lose_at}
+use Rattle.rules.specs.Table as table
+use Rattle.rules.specs.Table.{Row, Table, Answer, Done, head_answer, row_answer, shares_to, rows_answer, table_answer, opened_to, start, opening}
+use Rattle.rules.specs.Completion.{gives, completing, after_completion, completion}
+use Rattle.rules.specs.Leaving.{leave, gone}
+use Rattle.rules.specs.Arrival.{arrival}
+use Rattle.rules.specs.Arrival as arriving
+use Rattle.rules.specs.Drop.{head_only, dropped}
+use Rattle.rules.specs.Fitting.{fit, fitted}
+use Rattle.rules.specs.Choice.{idled}
+use Rattle.rules.specs.Charge.{benefits, charged, moved}
+use Rattle.rules.specs.Step.{Outcome, Grant, Idle, stepped}
+use Rattle.rules.specs.Step as tick
+use Rattle.rules.specs.Run.{state_after, row_after, ran}
+use Rattle.rules.specs.Calls as calls
+use Rattle.rules.specs.Calls.{Call, complete, step, run, apply}
 
 -- a number with its sign: 0 and the number, or 1 and its opposite
-abbrev pub ofInteger : ℤ → List ℕ
-ofInteger (pos n) = 0 ∷ n ∷ []
-ofInteger (negsuc n) = 1 ∷ suc n ∷ []
+abbrev pub of_integer : ℤ → List ℕ
+of_integer (pos n) = 0 ∷ n ∷ []
+of_integer (negsuc n) = 1 ∷ suc n ∷ []
 
-abbrev pub ofPhase : Phase → ℕ
-ofPhase Inactive = 0
-ofPhase Contending = 1
-ofPhase NonContending = 2
+abbrev pub of_phase : Phase → ℕ
+of_phase Inactive = 0
+of_phase Contending = 1
+of_phase NonContending = 2
 
-abbrev pub ofBool : Bool → ℕ
-ofBool b = cond b 1 0
+abbrev pub of_bool : Bool → ℕ
+of_bool b = cond b 1 0
 
-abbrev pub ofThread : Thread → List ℕ
-ofThread x = x .app ∷ ofPhase (x .phase) ∷ x .share ∷ x .period ∷ x .jobs ∷ (ofInteger (x .w .0) ++ ofInteger (x .e .0))
+abbrev pub of_thread : Thread → List ℕ
+of_thread x = x.app ∷ of_phase x.phase ∷ x.share ∷ x.period ∷ x.jobs ∷ (of_integer x.w.0 ++ of_integer x.e.0)
 
-unfoldable pub ofThreads : List Thread → List ℕ
-ofThreads [] = []
-ofThreads (x ∷ xs) = ofThread x ++ ofThreads xs
+unfoldable pub of_threads : List Thread → List ℕ
+of_threads [] = []
+of_threads (x ∷ xs) = of_thread x ++ of_threads xs
 
 -- the state, with the rows that its threads have
-abbrev pub ofState : State → List ℕ
-ofState s = s .count ∷ s .had ∷ s .q ∷ s .clock .0 ∷ ofBool (s .completed) ∷ ofBool (s .closed) ∷ ofThreads (take (s .count) (s .threads))
+abbrev pub of_state : State → List ℕ
+of_state s = s.count ∷ s.had ∷ s.q ∷ s.clock.0 ∷ of_bool s.completed ∷ of_bool s.closed ∷ of_threads (take s.count s.threads)
 
-abbrev pub ofAnswer : Answer → ℕ
-ofAnswer Done = 0
-ofAnswer (table.Refused n) = n
+abbrev pub of_answer : Answer → ℕ
+of_answer Done = 0
+of_answer (table.Refused n) = n
 
-abbrev pub ofOutcome : Outcome → List ℕ
-ofOutcome (Grant i) = 0 ∷ i ∷ []
-ofOutcome Idle = 0 ∷ 65535 ∷ []
-ofOutcome (tick.Refused n) = n ∷ []
+abbrev pub of_outcome : Outcome → List ℕ
+of_outcome (Grant i) = 0 ∷ i ∷ []
+of_outcome Idle = 0 ∷ 65535 ∷ []
+of_outcome (tick.Refused n) = n ∷ []
 
 -- what a call answers, with the lent row
 abbrev pub gave : State → Call → List ℕ
-gave s (complete i) = ofAnswer (completion s i .answer) ∷ []
-gave s (calls.arrive i) = ofAnswer (arrival s i .answer) ∷ []
-gave s (calls.drop i) = ofAnswer (dropped s i .answer) ∷ []
-gave s step = ofOutcome (stepped s .outcome)
-gave s (run to row) = ofAnswer (ran s to row .result .answer) ∷ (ran s to row .row)
+gave s (complete i) = of_answer (completion s i).answer ∷ []
+gave s (calls.arrive i) = of_answer (arrival s i).answer ∷ []
+gave s (calls.drop i) = of_answer (dropped s i).answer ∷ []
+gave s step = of_outcome (stepped s).outcome
+gave s (run to row) = of_answer (ran s to row).result.answer ∷ (ran s to row).row
 
 -- the answer and the state of each call, then every row of the last state that no thread has
 unfoldable pub told : State → List Call → List ℕ
-told s [] = ofThreads (drop (s .count) (s .threads))
-told s (c ∷ cs) = gave s c ++ (ofState (apply s c) ++ told (apply s c) cs)
+told s [] = of_threads (drop s.count s.threads)
+told s (c ∷ cs) = gave s c ++ (of_state (apply s c) ++ told (apply s c) cs)
 """
 
 UNFOLDING = """\
-unfolding ofThreads told sumBy mapTo freeShare earliest loseAt headAnswer rowAnswer sharesTo rowsAnswer tableAnswer \
-openedTo start opening gives completing afterCompletion completion leave gone arriving.arrive arrival headOnly dropped \
-fit fitted idled benefits charged moved stepped stateAfter rowAfter ran"""
+unfolding of_threads told sum_by map_to free_share earliest lose_at head_answer row_answer shares_to rows_answer table_answer \
+opened_to start opening gives completing after_completion completion leave gone arriving.arrive arrival head_only dropped \
+fit fitted idled benefits charged moved stepped state_after row_after ran"""
 
 PHASES = ["Inactive", "Contending", "NonContending"]
 # The numbers of a row that no thread has: five, and W and E with their signs.
@@ -154,13 +149,13 @@ def claims(program, seed):
     written = chain("(record { app = %d; share = %d; period = %d })" % tuple(row) for row in rows)
     head = "(record { q = %d; threads = %d; rows = %s })" % (table[0], len(rows), written)
     answer = int(lines[1][1])
-    out = claim("a%s" % seed, "ofAnswer (opening 100 %s .answer) ∷ []" % head, [answer])
+    out = claim("a%s" % seed, "of_answer (opening 100 %s).answer ∷ []" % head, [answer])
     if answer != 0:
         return out
     begin = [int(word) for word in lines[2][1:]]
     if begin[1] == 64 and begin[3:6] == [0, 0, 0]:
         first = "start 100 " + head
-        out += claim("b%s" % seed, "ofState (%s)" % first, plain(begin))
+        out += claim("b%s" % seed, "of_state (%s)" % first, plain(begin))
     else:
         first = written_state(begin)
     calls, told = [], []

@@ -9,22 +9,22 @@ import sys
 
 # The definitions that a listing is computed by, module by module.
 MODULES = [
-    ("lists.specs.Sum", "sumBy"),
-    ("lists.specs.MapTo", "mapTo"),
-    ("rules.specs.Threads", "freeShare earliest loseAt"),
-    ("rules.specs.Table", "headAnswer rowAnswer sharesTo rowsAnswer openedTo start"),
-    ("rules.specs.Completion", "gives completing afterCompletion completion"),
+    ("lists.specs.Sum", "sum_by"),
+    ("lists.specs.MapTo", "map_to"),
+    ("rules.specs.Threads", "free_share earliest lose_at"),
+    ("rules.specs.Table", "head_answer row_answer shares_to rows_answer opened_to start"),
+    ("rules.specs.Completion", "gives completing after_completion completion"),
     ("rules.specs.Leaving", "leave gone"),
     ("rules.specs.Arrival", "arrive arrival"),
-    ("rules.specs.Drop", "headOnly dropped"),
+    ("rules.specs.Drop", "head_only dropped"),
     ("rules.specs.Fitting", "fit fitted"),
     ("rules.specs.Choice", "idled"),
     ("rules.specs.Charge", "benefits charged moved"),
     ("rules.specs.Step", "stepped"),
-    ("rules.specs.Run", "stateAfter rowAfter ran"),
-    ("rules.specs.Records", "frameOf decoded"),
-    ("rules.specs.Reading", "beforeTicks ticksDue eventRead recordRead read"),
-    ("rules.specs.Listing", "bytes digits line heading tickLine tickLines ending listFrom listing"),
+    ("rules.specs.Run", "state_after row_after ran"),
+    ("rules.specs.Records", "frame_of decoded"),
+    ("rules.specs.Reading", "before_ticks ticks_due event_read record_read read"),
+    ("rules.specs.Listing", "bytes digits line heading tick_line tick_lines ending list_from listing"),
 ]
 
 
@@ -36,12 +36,10 @@ def numbers(values):
 def header(modules):
     """The lines that name what is used."""
     lines = [
-        "use mathlib.Core.Path.{_≡_, refl}",
-        "use mathlib.Core.List.{List, [], _∷_, _++_}",
-        "use Prim.Native.Nat.{ℕ}",
+        "use Rattle.std.specs.Prelude.{◌≡◌, refl, List, [], ◌∷◌, ◌++◌, ℕ}",
     ]
     for module, names in modules:
-        lines.append("use Rattle·%s.{%s}" % (module, ", ".join(names.split())))
+        lines.append("use Rattle.%s.{%s}" % (module, ", ".join(names.split())))
     return "\n".join(lines) + "\n"
 
 

@@ -34,7 +34,7 @@ ALIKE = {
     "receiver-only-earlier": [(RECEIVING, "    !earlier(deadline(y), deadline(x))\n", "    earlier(deadline(y), deadline(x))\n")],
     "receiver-strictly-later": [(RECEIVING, "    !earlier(deadline(y), deadline(x))\n", "    earlier(deadline(x), deadline(y))\n")],
     "receiver-contending": [
-        (RECEIVING, "use crate::thread::earlier;", "use crate::thread::contends;\nuse crate::thread::earlier;"),
+        (RECEIVING, "use crate::thread::{deadline, earlier, inactive};", "use crate::thread::{contends, deadline, earlier};"),
         (RECEIVING, "    if inactive(y) {", "    if !contends(y) {"),
     ],
     "receiver-in-any-application": [(RECEIVING, "    if y.app != x.app {", "    if y.app != y.app {")],
@@ -194,7 +194,7 @@ ALIKE = {
     "completion-loses-nothing": [(NOTED_EVENTS, "        return Amount(0);\n    }\n    z\n", "        return Amount(0);\n    }\n    Amount(0)\n")],
     "leaving-unheard": [(NOTED_LEAVING, "    let n = s.count;\n", "    let n: usize = 0;\n")],
     "leaving-ahead-of-the-clock": [
-        (NOTED_LEAVING, "use threads::amounts::sub;\n", "use threads::amounts::sub;\nuse threads::thread::contends;\nuse threads::thread::inactive;\n"),
+        (NOTED_LEAVING, "use threads::amounts::{less, scaled, sub};\n", "use threads::amounts::{less, scaled, sub};\nuse threads::thread::{contends, inactive};\n"),
         (NOTED_LEAVING, "        if leaves(x, until) {", "        if !inactive(x) && !contends(x) {"),
     ],
     "ending-ahead-of-the-clock": [(NOTED_EVENTS, "    if less(scaled(x.share, until), x.w) {", "    if less(x.w, x.w) {")],
