@@ -1,11 +1,12 @@
 """Copies of the repository in which a change is proved, or built with no proof and tested."""
 import os
 import pathlib
-import platform
 import re
 import shutil
 import signal
 import subprocess
+
+import copies
 
 # what a program writes of a trace, and the program
 PROGRAMS = {"listing": "bollardine", "report": "capacity"}
@@ -41,19 +42,20 @@ def run(words, folder, seconds=None, **more):
 def keep_what_is_linked(kit, kept):
     """The toolchain once more, as links, with a linker that keeps a copy of what it links.
 
-    rt try compiles with no proof, at -O0, at -O3 and with checks, runs each and gives none of them away.
+    rt try compiles with no proof and with checks, runs what it made and does not give it away.
     """
-    home = pathlib.Path(os.environ.get("RATTLE_HOME") or pathlib.Path(shutil.which("rt")).resolve().parent.parent)
-    machine = pathlib.Path("on") / platform.machine()
-    tools = machine / "toolchain"
-    for folder, without in ((".", "on"), (machine, "toolchain"), (tools, "bin"), (tools / "bin", "ld.lld")):
+    home = pathlib.Path(shutil.which("rt")).resolve().parent.parent
+    linker = kit / "toolchain/bin/ld.lld"
+    for folder, without in ((".", ("bin", "toolchain")), ("bin", ("rt", "rtlib.py")), ("toolchain", ("bin",)), ("toolchain/bin", ("ld.lld",))):
         (kit / folder).mkdir(parents=True, exist_ok=True)
         for path in (home / folder).iterdir():
-            if path.name != without:
+            if path.name not in without:
                 (kit / folder / path.name).symlink_to(path)
-    linker = kit / tools / "bin/ld.lld"
+    # rt takes the toolchain in whose folder it lies
+    for name in ("rt", "rtlib.py"):
+        shutil.copy(home / "bin" / name, kit / "bin")
     linker.write_text(f"""#!/bin/sh
-"{home / tools / 'bin/ld.lld'}" "$@" || exit $?
+"{home / 'toolchain/bin/ld.lld'}" "$@" || exit $?
 while [ "$1" != -o ]; do shift; done
 cp "$2" "{kept}/$(ls "{kept}" | wc -l)"
 """)
@@ -67,22 +69,9 @@ class Place:
         self.root = root
         self.folder = folder
         self.proved = folder / "proved"
-        shutil.copytree(root, self.proved, ignore=shutil.ignore_patterns(".git", "mutate", "second"))
+        copies.copied(root, self.proved, copies.lines(root))
         self.plain = folder / "plain"
-        shutil.copytree(root / "crates", self.plain / "crates")
-        shutil.copy(root / "crates.txt", self.plain)
-        # nothing is compared while a program is built
-        for path in [*self.plain.glob("crates/*/stdin"), *self.plain.glob("crates/*/stdout")]:
-            path.unlink()
-        # for rt try every crate is in sight everywhere, so a module with the name of a crate needs another one
-        self.namesakes = [(path.parts[-3], path.stem) for path in root.glob("crates/*/src/*.rt") if (root / "crates" / path.stem).is_dir()]
-        for crate, module in self.namesakes:
-            (self.plain / f"crates/{crate}/src/{module}.rt").unlink()
-        for path in root.glob("crates/*/src/*.rt"):
-            self.put_plain(str(path.relative_to(root)), path.read_text())
-        # rt try begins on an interpreter, which is slow and gives up at such a call
-        self.edit("crates/limits/src/main.rt", "fn main() {\n", "fn main() {\n    os::arg_count();\n")
-        self.edit("crates.txt", " io libc\n", " io os libc\n")
+        copies.copied(root, self.plain, copies.lines(root), copies.KEPT)
         self.kept = folder / "kept"
         self.kit = folder / "kit"
         keep_what_is_linked(self.kit, self.kept)
@@ -92,55 +81,37 @@ class Place:
         said = self.tests(kind)
         return f"the program {PROGRAMS[kind]} is not built" if said is None else "; ".join(filter(None, said.values()))
 
-    def edit(self, file, old, new):
-        """Edits a file of the copy to build in, in which the old text stands once."""
-        text = (self.plain / file).read_text()
-        if text.count(old) != 1:
-            raise ValueError(f"{file} has not once {old!r}")
-        (self.plain / file).write_text(text.replace(old, new))
-
-    def put_plain(self, file, text):
-        """Puts a text into the copy to build in."""
-        for crate, module in self.namesakes:
-            text = text.replace(f"{crate}::{module}::", f"{crate}::{module}_::")
-            if file.startswith(f"crates/{crate}/src/"):
-                text = re.sub(rf"\b(mod |crate::){module}\b", rf"\1{module}_", text)
-                file = file.replace(f"/{module}.rt", f"/{module}_.rt")
-        (self.plain / file).write_text(text)
-
     def put(self, texts):
         """Puts the texts, by file, into both copies and gives back those that stood there."""
         before = {file: (self.proved / file).read_text() for file in texts}
         for file, text in texts.items():
             (self.proved / file).write_text(text)
-            self.put_plain(file, text)
+            (self.plain / file).write_text(text)
         return before
 
     def built(self, program):
-        """The program as it is compiled with no proof, at -O3 or, where its run at -O0 does not end, so; None where it is no program."""
+        """The program as it is compiled with no proof; None where it is no program."""
         shutil.rmtree(self.kept, ignore_errors=True)
         self.kept.mkdir()
-        status, said = run(["rt", "try", program], self.plain, 120, env=dict(os.environ, RATTLE_HOME=str(self.kit)))
-        made = [self.kept / name for name in ("1", "0") if (self.kept / name).exists()]
+        # of the run on an interpreter, which comes first, only the beginning
+        status, said = run([self.kit / "bin/rt", "try", "--steps", "1000", "--seconds", "1"], self.plain / "crates" / program, 120)
+        made = sorted(self.kept.iterdir())
         if made:
-            return shutil.copy(made[0], self.folder / program)
-        if "the front end rejected" in said:
+            return shutil.copy(made[-1], self.folder / program)
+        if status == 1 and "error[" in said:
             return None
-        raise RuntimeError(f"rt try {program} makes no program and ends with {status}: {said}")
+        raise RuntimeError(f"rt try makes no program {program} and ends with {status}: {said}")
 
     # ---- the prover
 
     def prover(self, crate):
         """Whether the prover refuses, None where the change is no program, and what is said of it."""
-        asked = JUDGE.get(crate, crate)
-        status, said = run(["rt", "dev", asked], self.proved)
-        if status == 1:
-            return (None, "") if ": error[" in said else (True, unproved(said))
-        status, said = run(["rt", "check", asked], self.proved)
-        # a program that is proved is also run, and that is a test and not the prover
-        if status == 0 or "proved, and its run FAILED" in said:
+        status, said = run(["rt", "check", "--jobs", "1"], self.proved / "crates" / JUDGE.get(crate, crate))
+        if status == 0:
             return False, ACCEPTED
-        return (True, "in the full check, " + unproved(said)) if status == 1 else (False, f"NOT TOLD: rt ends with {status}")
+        if status == 1 and "error[" in said:
+            return None, ""
+        return (True, unproved(said)) if status == 1 else (False, f"NOT TOLD: rt ends with {status}")
 
     # ---- the tests
 
@@ -195,9 +166,9 @@ class Place:
 
 def unproved(said):
     """The function, and the first fact of it that is not proved."""
-    for pattern in (r"proofs/([\w/]+)/\w+\.antt:\d+:\d+: error: `([^`]+)`", r"^fn (\S+): no proof: .* does not close `([^`]+)`"):
+    for pattern in (r"^(?:\./)?proofs/([\w/]+)/\w+\.antt:\d+:\d+: error: `([^`]+)`", r"^fn \w+::(\S+): no proof: .*`search` did not prove `([^`]+)`"):
         found = re.search(pattern, said, re.M)
         if found:
-            return f"{found.group(1)}: {found.group(2)}"
-    found = re.search(r"^(?:fn|rt:) (\S+): not proved", said, re.M)
+            return f"{found.group(1).replace('::', '/')}: {found.group(2)}"
+    found = re.search(r"^(?:fn|rt:) (\S+): (?:not proved|no proof)", said, re.M)
     return found.group(1) if found else "refused"
