@@ -9,7 +9,7 @@
 #include "../bindings/bollardine.h"
 
 #define STACK 262144
-#define MOST 32768
+#define MOST 20480
 
 /* The same functions; the memory in which the answer is to stand goes first, as on x86-64 it does for every long struct. */
 void *begin_at(void *a, struct bollardine_table t) __asm__("bollardine_begin");

@@ -112,7 +112,8 @@ fn thread_in(t: OutThread) -> Thread
     }
 }
 
-// The state as it stands outside.
+// The state as it stands outside; in a call of its own, so that what it holds takes no stack while a tick is taken.
+#[inline(never)]
 fn state_out(s: State) -> OutState
     ensures { result ≡ outside_state s }
 {
@@ -136,7 +137,8 @@ fn state_out(s: State) -> OutState
     }
 }
 
-// The state as it stands inside.
+// The state as it stands inside; in a call of its own, as above.
+#[inline(never)]
 fn state_in(s: OutState) -> State
     ensures { result ≡ inside_state s }
 {
