@@ -18,6 +18,8 @@ import tempfile
 
 PARTS = ("src", "specs", "proofs")
 KEPT = ("out/rlib", "out/incremental")
+# for checks that are run beside each other
+ONE = ("--jobs", "1")
 
 
 def lines(root):
@@ -50,21 +52,19 @@ def put(one, other):
     return shutil.copy2(one, other)
 
 
-def copied(root, target, crates, without=()):
-    """Makes of these crates a repository in the folder target, without the files and folders of these names."""
+def copied(root, target, crates, parts=(*PARTS, *KEPT)):
+    """Makes a repository of these parts of these crates in the folder target."""
     listed = lines(root)
     for name in crates:
-        for part in (*PARTS, *KEPT):
-            if part not in without and (root / "crates" / name / part).is_dir():
-                ignore = shutil.ignore_patterns(*without) if part in PARTS else None
-                shutil.copytree(root / "crates" / name / part, target / "crates" / name / part, copy_function=put, ignore=ignore)
+        for part in parts:
+            if (root / "crates" / name / part).is_dir():
+                shutil.copytree(root / "crates" / name / part, target / "crates" / name / part, copy_function=put)
     (target / "crates.txt").write_text("".join(listed[name] + "\n" for name in crates))
 
 
 def checked(root, crate, *words):
-    """The status and the words of rt check in this repository's crate; where one below it does not build, that is said last."""
-    command = ["rt", "check", "--jobs", "1", *words]
-    done = subprocess.run(command, cwd=root / "crates" / crate, stdin=subprocess.DEVNULL, capture_output=True, text=True)
+    """The status and the words of rt check in this repository's crate."""
+    done = subprocess.run(["rt", "check", *words], cwd=root / "crates" / crate, stdin=subprocess.DEVNULL, capture_output=True, text=True)
     return done.returncode, done.stdout + done.stderr
 
 
@@ -95,7 +95,7 @@ def merged(root, folder, variants):
             own = "|".join({crate for crate, _ in variant})
             text = re.sub(rf"\bRattle\.({own})\.specs\.", lambda found: f"Rattle.tried.specs.V{number}.{found[1].title()}.", text)
             put_module(home / "specs", (f"V{number}", crate.title(), stem), text)
-    status, output = checked(folder, "tried")
+    status, output = checked(folder, "tried", *ONE)
     errors = {}
     for number, crate, stem, line, said in re.findall(r"^\./specs/V(\d+)/(\w+)/(\w+)\.antt:(\d+):\d+: error: (.*)", output, re.M):
         errors.setdefault(int(number), []).append((crate.lower(), stem, int(line), said))

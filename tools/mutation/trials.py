@@ -71,7 +71,7 @@ class Place:
         self.proved = folder / "proved"
         copies.copied(root, self.proved, copies.lines(root))
         self.plain = folder / "plain"
-        copies.copied(root, self.plain, copies.lines(root), copies.KEPT)
+        copies.copied(root, self.plain, copies.lines(root), copies.PARTS)
         self.kept = folder / "kept"
         self.kit = folder / "kit"
         keep_what_is_linked(self.kit, self.kept)
@@ -170,5 +170,5 @@ def unproved(said):
         found = re.search(pattern, said, re.M)
         if found:
             return f"{found.group(1).replace('::', '/')}: {found.group(2)}"
-    found = re.search(r"^(?:fn|rt:) (\S+): (?:not proved|no proof)", said, re.M)
-    return found.group(1) if found else "refused"
+    found = re.search(r"^fn \w+::(\S+): (?:not proved|no proof)", said, re.M)
+    return found.group(1).replace("::", "/") if found else "refused"
