@@ -20,82 +20,66 @@ NOTED_TICKS = "crates/accounts/src/ticks.rt"
 LINES = "crates/accounts/src/lines.rt"
 REPORT = "crates/report/src/lib.rt"
 
-CHOICE = "    if b == Table::NOBODY {\n        return idle_tick(z);\n    }\n    charge(z, b, free, best)\n"
+CHOICE = "        Some(c) => charge(s, c.thread, &free, &it.best),\n"
 PERIOD = "scaled(t.share, Moment(t.period))"
+FITS = "contends(t) && t.e - t.w < Amount::from(room)"
 # a record that the listing sweeps changes the jobs of a thread and nothing else: with this no arrival is swept
-NO_SWEEP = (SWEEP, "    t.jobs + 1\n", "    TOO_MANY\n")
+NO_SWEEP = (SWEEP, "        Some(t.jobs + 1)\n", "        None\n")
 
 ALIKE = {
     # ---- step 1, completion
-    "completion-pulls-back": [(EVENTS, "    if less(t.e, e) {\n        u.e = e;\n    }\n", "    u.e = e;\n")],
-    "completion-keeps-deadline": [(EVENTS, "        u.e = e;\n", "        u.e = t.e;\n")],
-    "stays-at-equality": [(EVENTS, "if less(due, t.w) {", "if !less(t.w, due) {")],
-    "receiver-earlier-too": [(RECEIVING, "    !earlier(deadline(y), deadline(x))\n", "    true\n")],
-    "receiver-only-earlier": [(RECEIVING, "    !earlier(deadline(y), deadline(x))\n", "    earlier(deadline(y), deadline(x))\n")],
-    "receiver-strictly-later": [(RECEIVING, "    !earlier(deadline(y), deadline(x))\n", "    earlier(deadline(x), deadline(y))\n")],
+    "completion-pulls-back": [(EVENTS, f"t.e.max(t.w + {PERIOD})", f"t.w + {PERIOD}")],
+    "completion-keeps-deadline": [(EVENTS, f"        e: t.e.max(t.w + {PERIOD}),\n", "")],
+    "stays-at-equality": [(EVENTS, "if due < t.w {", "if due <= t.w {")],
+    "receiver-earlier-too": [(RECEIVING, " && !earlier(deadline(y), deadline(x))", "")],
+    "receiver-only-earlier": [(RECEIVING, "!earlier(deadline(y), deadline(x))", "earlier(deadline(y), deadline(x))")],
+    "receiver-strictly-later": [(RECEIVING, "!earlier(deadline(y), deadline(x))", "earlier(deadline(x), deadline(y))")],
     "receiver-contending": [
-        (RECEIVING, "use crate::thread::{deadline, earlier, inactive};", "use crate::thread::{contends, deadline, earlier};"),
-        (RECEIVING, "    if inactive(y) {", "    if !contends(y) {"),
+        (RECEIVING, "use crate::thread::{at_rest, closer, deadline, earlier, is_active};", "use crate::thread::{at_rest, closer, contends, deadline, earlier};"),
+        (RECEIVING, "    is_active(y) && ", "    contends(y) && "),
     ],
-    "receiver-in-any-application": [(RECEIVING, "    if y.app != x.app {", "    if y.app != y.app {")],
-    "freed-amount-lost": [(EVENTS, "let b = find_receiver(z, t);", "let b = Table::NOBODY;")],
-    "completion-forgets-who-had": [(EVENTS, "    z.completed = true;\n", "    z.completed = true;\n    z.had = Table::NOBODY;\n")],
-    "completion-closes": [(EVENTS, "    z.completed = true;\n", "    z.completed = true;\n    z.closed = true;\n")],
-    "completion-not-remembered": [(EVENTS, "    z.completed = true;\n", "    z.completed = s.completed;\n")],
-    "second-completion": [(EVENTS, "    if s.completed {\n        return refused(9, s);\n    }\n", "")],
+    "receiver-in-any-application": [(RECEIVING, " && y.app == x.app", "")],
+    "freed-amount-lost": [(EVENTS, "lighter(s.threads[b], due - t.w)", "lighter(s.threads[b], due - due)")],
+    "completion-forgets-who-had": [(EVENTS, "    s.completed = true;\n", "    s.completed = true;\n    s.had = Table::NOBODY;\n")],
+    "completion-closes": [(EVENTS, "    s.completed = true;\n", "    s.completed = true;\n    s.closed = true;\n")],
+    "completion-not-remembered": [(EVENTS, "    s.completed = true;\n", "")],
+    "second-completion": [(EVENTS, "if k != s.had || s.completed {", "if k != s.had {")],
     "nine-before-ten": [
-        (EVENTS, "    if s.closed {\n        return refused(10, s);\n    }\n    if k != s.had {\n        return refused(9, s);\n    }\n    if s.completed {\n        return refused(9, s);\n    }\n",
-         "    if k != s.had {\n        return refused(9, s);\n    }\n    if s.completed {\n        return refused(9, s);\n    }\n    if s.closed {\n        return refused(10, s);\n    }\n"),
+        (EVENTS, "    if s.closed {\n        return Err(Refusal::AfterAnArrival);\n    }\n    if k != s.had || s.completed {\n        return Err(Refusal::NotItsTick);\n    }\n",
+         "    if k != s.had || s.completed {\n        return Err(Refusal::NotItsTick);\n    }\n    if s.closed {\n        return Err(Refusal::AfterAnArrival);\n    }\n"),
     ],
     # ---- step 2, leaving
-    "leaving-strict": [(THREAD, "if less(scaled(t.share, now), t.w) {", "if !less(t.w, scaled(t.share, now)) {")],
-    "leaving-never": [(THREAD, "                at_rest(t)\n", "                t\n")],
-    "leaving-contending": [
-        (THREAD, "        Phase::Contending => t,\n",
-         "        Phase::Contending => { if less(scaled(t.share, now), t.w) { t } else { at_rest(t) } }\n"),
-    ],
-    "leaving-not-before-arrival": [(EVENTS, "let mut z = leaving(s);", "let mut z = s;")],
-    "leaving-not-at-tick": [(STEP, "left_unless(closed, x, now)", "left_unless(true, x, now)")],
+    "leaving-strict": [(THREAD, "scaled(t.share, now) < t.w {", "scaled(t.share, now) <= t.w {")],
+    "leaving-never": [(THREAD, "        return t;\n    }\n    at_rest(t)\n", "        return t;\n    }\n    t\n")],
+    "leaving-contending": [(THREAD, "if t.phase != Phase::NonContending || ", "if t.phase == Phase::Inactive || ")],
+    "leaving-not-before-arrival": [(EVENTS, "    leaving(&mut s);\n", "")],
+    "leaving-not-at-tick": [(PASSES, "left_unless(closed, s.threads[i], now)", "left_unless(true, s.threads[i], now)")],
     # ---- step 3, arrivals
     "arrival-resets-w": [
-        (EVENTS, f"Phase::NonContending => contending(t, jobs, w, add(w, {PERIOD})),",
-         f"Phase::NonContending => contending(t, jobs, scaled(t.share, now), add(scaled(t.share, now), {PERIOD})),"),
+        (EVENTS, "Phase::NonContending => (t.w, t.w + period),", "Phase::NonContending => (scaled(t.share, now), scaled(t.share, now) + period),"),
     ],
-    "arrival-keeps-deadline": [
-        (EVENTS, f"Phase::NonContending => contending(t, jobs, w, add(w, {PERIOD})),", "Phase::NonContending => contending(t, jobs, w, e),"),
-    ],
-    "arrival-sets-deadline": [
-        (EVENTS, "Phase::Contending => contending(t, jobs, w, e),", f"Phase::Contending => contending(t, jobs, w, add(w, {PERIOD})),"),
-        NO_SWEEP,
-    ],
-    "arrival-from-zero": [(EVENTS, "let v = scaled(t.share, now);", "let v = scaled(t.share, Moment(0));")],
-    "arrival-open": [(EVENTS, "    z.closed = true;\n", "    z.closed = s.closed;\n"), NO_SWEEP],
-    "arrival-one-job-too-few": [(EVENTS, "if t.jobs >= Table::MAX_JOBS {", "if t.jobs + 1 >= Table::MAX_JOBS {"), NO_SWEEP],
-    "arrival-refused-leaves": [(EVENTS, "return refused(11, s);", "return refused(11, leaving(s));")],
-    "arrival-refused-closes": [
-        (EVENTS, "        return refused(11, s);\n", "        let mut y = s;\n        y.closed = true;\n        return refused(11, y);\n"),
-    ],
-    "arrival-refused": [(EVENTS, "    let mut z = leaving(s);\n", "    if t.jobs < Table::MAX_JOBS {\n        return refused(8, s);\n    }\n    let mut z = leaving(s);\n"), NO_SWEEP],
+    "arrival-keeps-deadline": [(EVENTS, "Phase::NonContending => (t.w, t.w + period),", "Phase::NonContending => (t.w, t.e),")],
+    "arrival-sets-deadline": [(EVENTS, "Phase::Contending => (t.w, t.e),", "Phase::Contending => (t.w, t.w + period),"), NO_SWEEP],
+    "arrival-from-zero": [(EVENTS, "let w = scaled(t.share, now);", "let w = scaled(t.share, Moment(0));")],
+    "arrival-open": [(EVENTS, "    s.closed = true;\n", ""), NO_SWEEP],
+    "arrival-one-job-too-few": [(EVENTS, "if s.threads[k].jobs >= Table::MAX_JOBS {", "if s.threads[k].jobs + 1 >= Table::MAX_JOBS {"), NO_SWEEP],
+    "arrival-refused": [(EVENTS, "    leaving(&mut s);\n", "    if s.threads[k].jobs < Table::MAX_JOBS {\n        return Err(Refusal::NoSuchThread);\n    }\n    leaving(&mut s);\n"), NO_SWEEP],
     # ---- step 4, fitting
-    "fitting-after-passing": [(THREAD, "if less(sub(e, w), amount_of(room)) {", "if less(e, w) {")],
-    "fitting-after-reaching": [(THREAD, "if less(sub(e, w), amount_of(room)) {", "if !less(w, e) {")],
-    "fitting-at-equality": [(THREAD, "if less(sub(e, w), amount_of(room)) {", "if !less(amount_of(room), sub(e, w)) {")],
-    "fitting-left-out": [(STEP, "let t = fit_one(x, room);", "let t = x;")],
+    "fitting-after-passing": [(THREAD, FITS, "contends(t) && t.e < t.w")],
+    "fitting-after-reaching": [(THREAD, FITS, "contends(t) && t.e <= t.w")],
+    "fitting-at-equality": [(THREAD, FITS, "contends(t) && t.e - t.w <= Amount::from(room)")],
+    "fitting-left-out": [(PASSES, "let t = fit_one(x, q - free[a]);", "let t = x;")],
     "fitting-repeated": [
-        (THREAD, f"            u.e = add(e, {PERIOD});\n",
-         f"            u.e = add(e, {PERIOD});\n            if less(sub(u.e, w), amount_of(room)) {{\n                u.e = add(u.e, {PERIOD});\n            }}\n"),
+        (THREAD, f"        let e = t.e + {PERIOD};\n",
+         f"        let mut e = t.e + {PERIOD};\n        if e - t.w < Amount::from(room) {{\n            e = e + {PERIOD};\n        }}\n"),
     ],
-    "fitting-whole-tick": [(STEP, "let room = q - free[a];", "let room = q;")],
-    "fitting-from-w": [(THREAD, f"u.e = add(e, {PERIOD});", f"u.e = add(w, {PERIOD});")],
-    "fitting-non-contending": [(THREAD, "    if contends(t) {\n        let e", "    if is_active(t) {\n        let e")],
+    "fitting-whole-tick": [(PASSES, "fit_one(x, q - free[a])", "fit_one(x, q)")],
+    "fitting-from-w": [(THREAD, f"let e = t.e + {PERIOD};", f"let e = t.w + {PERIOD};")],
+    "fitting-non-contending": [(THREAD, FITS, "is_active(t) && t.e - t.w < Amount::from(room)")],
     # ---- step 5, choice
-    "tie-to-highest": [
-        (THREAD, "    earlier(d, o)\n", "    !earlier(o, d)\n"),
-        (RECEIVING, "                if earlier(deadline(t), deadline(o)) {", "                if !earlier(deadline(o), deadline(t)) {"),
-    ],
+    "tie-to-highest": [(THREAD, "Some(o) if !earlier(it.deadline, o.deadline) => so_far,", "Some(o) if earlier(o.deadline, it.deadline) => so_far,")],
     "deadlines-rounded-down": [
-        (THREAD, "    if p < q {", "    if p < p {"),
-        (THREAD, "    if q < p {", "    if q < q {"),
+        (THREAD, "Ordering::Equal => (d.remainder * o.share).cmp(&(o.remainder * d.share)),", "Ordering::Equal => Ordering::Equal,"),
     ],
     "deadlines-rounded-up": [
         (THREAD, "whole: e / u,", "whole: (e + u - 1) / u,"),
@@ -104,120 +88,128 @@ ALIKE = {
     "deadlines-not-scaled": [
         (THREAD, "whole: e / u,", "whole: e,"), (THREAD, "remainder: (e % u) as u32,", "remainder: 0,"),
     ],
-    "choice-of-active": [(STEP, "            if contends(t) {", "            if is_active(t) {")],
-    "choice-always-first": [(STEP, CHOICE, "    charge(z, 0, free, best)\n")],
-    "choice-always-idle": [(STEP, CHOICE, "    idle_tick(z)\n")],
-    "idle-leaves-threads": [(PASSES, "z.threads[i] = at_rest(t);", "z.threads[i] = t;")],
+    "choice-of-active": [(PASSES, "            if contends(t) {", "            if is_active(t) {")],
+    "choice-always-first": [(STEP, CHOICE, "        Some(_) => charge(s, 0, &free, &it.best),\n"), (STEP, "        None => idle_tick(s),\n", "        None => charge(s, 0, &free, &it.best),\n")],
+    "choice-always-idle": [(STEP, CHOICE, "        Some(_) => idle_tick(s),\n")],
+    "idle-leaves-threads": [(PASSES, "s.threads[i] = at_rest(s.threads[i]);", "s.threads[i] = s.threads[i];")],
     # ---- step 6, charge
-    "charge-whole": [(PASSES, "let room = z.q - free[own];", "let room = z.q;")],
-    "charge-share": [(PASSES, "let room = z.q - free[own];", "let room = t.share;")],
+    "charge-whole": [(PASSES, "let room = s.q - free[own];", "let room = s.q;")],
+    "charge-share": [(PASSES, "let room = s.q - free[own];", "let room = s.threads[c].share;")],
     "own-application-benefits": [(PASSES, "if a != own {", "if a != Table::APPS {")],
     "nobody-benefits": [(PASSES, "if a != own {", "if a == Table::APPS {")],
-    "beneficiary-contending": [(STEP, "if leads(d, due[a], best[a]) {", "if contends(t) && leads(d, due[a], best[a]) {")],
+    "beneficiary-contending": [
+        (PASSES, "            best[a] = closer(best[a], it);\n            if contends(t) {\n", "            if contends(t) {\n                best[a] = closer(best[a], it);\n"),
+    ],
     "free-share-of-all": [
-        (STEP, "        let a = t.app as usize;\n        let r = free[a];\n        free[a] = r + spare(t);\n",
-         "        let mut a: usize = 0;\n        while a < Table::APPS {\n            let r = free[a];\n            free[a] = r + spare(t);\n            a += 1;\n        }\n"),
+        (PASSES, "        free[t.app as usize] += spare(t);\n", "        for a in 0..Table::APPS {\n            free[a] += spare(t);\n        }\n"),
     ],
-    "non-contending-is-free": [(THREAD, "    if inactive(t) {\n        return t.share;", "    if !contends(t) {\n        return t.share;")],
-    "completed-stays": [
-        (PASSES, "    z.had = c;\n    z.completed = false;\n", "    z.had = c;\n"),
-        (PASSES, "    z.had = Table::NOBODY;\n    z.completed = false;\n", "    z.had = Table::NOBODY;\n"),
-    ],
-    "closed-stays": [
-        (PASSES, "    z.had = c;\n    z.completed = false;\n    z.closed = false;\n", "    z.had = c;\n    z.completed = false;\n"),
-        (PASSES, "    z.had = Table::NOBODY;\n    z.completed = false;\n    z.closed = false;\n", "    z.had = Table::NOBODY;\n    z.completed = false;\n"),
-    ],
+    "non-contending-is-free": [(THREAD, "    if inactive(t) { t.share } else { 0 }", "    if !contends(t) { t.share } else { 0 }")],
+    "completed-stays": [(PASSES, "    s.completed = false;\n", "")],
+    "closed-stays": [(PASSES, "    s.closed = false;\n", "")],
     "clock-only": [
-        (PASSES, "if a != own {", "if a == Table::APPS {"), (PASSES, "u.w = add(u.w, amount_of(room));", "u.w = add(u.w, amount_of(0));"),
-        (PASSES, "z.threads[i] = at_rest(t);", "z.threads[i] = t;"),
+        (PASSES, "if a != own {", "if a == Table::APPS {"), (PASSES, "w: t.w + Amount::from(room),", "w: t.w + Amount::from(0),"),
+        (PASSES, "s.threads[i] = at_rest(s.threads[i]);", "s.threads[i] = s.threads[i];"),
     ],
     # ---- drops
     "drop-head": [
-        (EVENTS, "    if t.jobs > 1 {\n        u.jobs = 1;\n    }\n", "    u.jobs = 0;\n"),
-        (SWEEP, "{ if t.jobs > 1 { 1 } else { t.jobs } }", "0,"),
+        (EVENTS, "jobs: t.jobs.min(1),", "jobs: 0,"),
+        (SWEEP, "Some(t.jobs.min(1))", "Some(0)"),
     ],
     "drop-nothing": [
-        (EVENTS, "        u.jobs = 1;\n", "        u.jobs = t.jobs;\n"), (SWEEP, "{ if t.jobs > 1 { 1 } else { t.jobs } }", "t.jobs,"),
+        (EVENTS, "jobs: t.jobs.min(1),", "jobs: t.jobs,"), (SWEEP, "Some(t.jobs.min(1))", "Some(t.jobs)"),
     ],
     "drop-one": [
-        (EVENTS, "        u.jobs = 1;\n", "        u.jobs = t.jobs - 1;\n"),
-        (SWEEP, "{ if t.jobs > 1 { 1 } else { t.jobs } }", "{ if t.jobs > 1 { t.jobs - 1 } else { t.jobs } }"),
+        (EVENTS, "jobs: t.jobs.min(1),", "jobs: if t.jobs > 1 { t.jobs - 1 } else { t.jobs },"),
+        (SWEEP, "Some(t.jobs.min(1))", "Some(if t.jobs > 1 { t.jobs - 1 } else { t.jobs })"),
     ],
     "drop-brings-leaving": [
-        (EVENTS, "    let mut z = s;\n    z.threads[k] = u;\n    Answered {", "    let mut y = s;\n    y.threads[k] = u;\n    let z = leaving(y);\n    Answered {"),
-        (SWEEP, "{ if t.jobs > 1 { 1 } else { t.jobs } }", "TOO_MANY,"),
+        (EVENTS, "    s.threads[k] = head_only(s.threads[k]);\n    Ok(s)\n", "    s.threads[k] = head_only(s.threads[k]);\n    leaving(&mut s);\n    Ok(s)\n"),
+        (SWEEP, "Some(t.jobs.min(1))", "None"),
     ],
     # ---- runs and tables
     "seventeen-before-thirteen": [
-        (STEP, "    if to.0 > end.0 {\n        return Answered {\n            answer: Answer::Refused(13), // whatever the row\n            state: s,\n        };\n    }\n    let n = (to.0 - s.clock.0) as usize;\n    if row.len() < n {\n        return Answered {\n            answer: Answer::Refused(17),\n            state: s,\n        };\n    }\n",
-         "    let n = (to.0 - s.clock.0) as usize;\n    if row.len() < n {\n        return Answered {\n            answer: Answer::Refused(17),\n            state: s,\n        };\n    }\n    if to.0 > end.0 {\n        return Answered {\n            answer: Answer::Refused(13),\n            state: s,\n        };\n    }\n"),
+        (STEP, "    let n = ticks_until(s.clock, to)?; // whatever the row\n",
+         "    if to >= s.clock && row.len() < (to.0 - s.clock.0) as usize {\n        return Err(Refusal::RowTooShort);\n    }\n    let n = ticks_until(s.clock, to)?;\n"),
     ],
     "idle-entry": [(STEP, "        return Table::IDLE;", "        return 64;")],
     "two-before-one": [
-        (TABLES, "    if q == 0 {\n        return Answer::Refused(1);\n    }\n    if q > Table::MAX_Q {\n        return Answer::Refused(1);\n    }\n    if threads == 0 {\n        return Answer::Refused(2);\n    }\n    if threads as usize > Table::MAX_THREADS {\n        return Answer::Refused(2);\n    }\n",
-         "    if threads == 0 {\n        return Answer::Refused(2);\n    }\n    if threads as usize > Table::MAX_THREADS {\n        return Answer::Refused(2);\n    }\n    if q == 0 {\n        return Answer::Refused(1);\n    }\n    if q > Table::MAX_Q {\n        return Answer::Refused(1);\n    }\n"),
+        (TABLES, "    if q == 0 || q > Table::MAX_Q {\n        return Err(Refusal::QOutsideItsRange);\n    }\n    if threads == 0 || threads as usize > Table::MAX_THREADS {\n        return Err(Refusal::ThreadsOutsideTheirRange);\n    }\n",
+         "    if threads == 0 || threads as usize > Table::MAX_THREADS {\n        return Err(Refusal::ThreadsOutsideTheirRange);\n    }\n    if q == 0 || q > Table::MAX_Q {\n        return Err(Refusal::QOutsideItsRange);\n    }\n"),
     ],
     "seven-before-six": [
-        (TABLES, "    if (x.share as u64) * (period as u64) < q as u64 {\n        return Answer::Refused(6);\n    }\n    if (before as u64) + (x.share as u64) > q as u64 {\n        return Answer::Refused(7);\n    }\n",
-         "    if (before as u64) + (x.share as u64) > q as u64 {\n        return Answer::Refused(7);\n    }\n    if (x.share as u64) * (period as u64) < q as u64 {\n        return Answer::Refused(6);\n    }\n"),
+        (TABLES, "    if (x.share as u64) * (period as u64) < q as u64 {\n        return Err(Refusal::LessThanATick);\n    }\n    if (before as u64) + (x.share as u64) > q as u64 {\n        return Err(Refusal::SharesAboveQ);\n    }\n",
+         "    if (before as u64) + (x.share as u64) > q as u64 {\n        return Err(Refusal::SharesAboveQ);\n    }\n    if (x.share as u64) * (period as u64) < q as u64 {\n        return Err(Refusal::LessThanATick);\n    }\n"),
     ],
-    "period-0-as-written": [(TABLES, "        return Table::USUAL_PERIOD;", "        return 0;")],
+    "period-0-as-written": [(TABLES, "if p == 0 { Table::USUAL_PERIOD } else { p }", "if p == 0 { 0 } else { p }")],
     "row-not-counted": [(TABLES, "if (before as u64) + (x.share as u64) > q as u64 {", "if (before as u64) > q as u64 {")],
     "six-at-equality": [(TABLES, "if (x.share as u64) * (period as u64) < q as u64 {", "if (x.share as u64) * (period as u64) <= q as u64 {")],
     # ---- traces and the listing
-    "big-endian": [(TRACE, "(low + 256 * high) as u16", "(256 * low + high) as u16")],
-    "length-below-two": [(TRACE, "    if n < 2 {\n        return Frame::Cut;\n    }\n", "")],
-    "eight-before-thirteen": [
-        (READING_EVENTS, "        Record::Arrival(m, i) => thread_answer(now, count, m, i),\n",
-         "        Record::Arrival(m, i) => { if (i as usize) < count { moment_answer(now, m) } else { Answer::Refused(8) } }\n"),
+    # the greater byte of each two first: of four bytes too, as the rule has them in two halves
+    "big-endian": [
+        (TRACE, "from_le_bytes([i0, i1])", "from_be_bytes([i0, i1])"),
+        (TRACE, "from_le_bytes([m0, m1, m2, m3])", "from_le_bytes([m1, m0, m3, m2])"),
+        (TRACE, "from_le_bytes([q0, q1])", "from_be_bytes([q0, q1])"),
+        (TRACE, "from_le_bytes([n0, n1])", "from_be_bytes([n0, n1])"),
+        (TRACE, "from_le_bytes([a0, a1])", "from_be_bytes([a0, a1])"),
+        (TRACE, "from_le_bytes([s0, s1])", "from_be_bytes([s0, s1])"),
+        (TRACE, "from_le_bytes([p0, p1, p2, p3])", "from_le_bytes([p1, p0, p3, p2])"),
+        (TRACE, "Kind::RunTo => Ok(Record::RunTo(Moment(u32::from_le_bytes(sized(b)?)))),",
+         "Kind::RunTo => {\n                let [t0, t1, t2, t3] = sized::<4>(b)?;\n                Ok(Record::RunTo(Moment(u32::from_le_bytes([t1, t0, t3, t2]))))\n            }"),
+        (TRACE, "from_le_bytes([*l0, *l1])", "from_be_bytes([*l0, *l1])"),
+        (TRACE, "from_le_bytes([*k0, *k1])", "from_be_bytes([*k0, *k1])"),
     ],
-    "head-anywhere": [(READING_TABLE, "    if old.threads != 0 {\n        return refused(16, r);\n    }\n", "")],
+    "length-below-two": [(TRACE, "if n < 2 || s.len() < 2 + n {", "if s.len() < 2 + n {")],
+    "eight-before-thirteen": [
+        (READING_EVENTS, "        Record::Arrival(m, i) | Record::Completion(m, i) | Record::Drop(m, i) => {\n            thread_answer(s, m, i)\n        }\n",
+         "        Record::Arrival(m, i) => {\n            if (i as usize) < s.count { moment_answer(s, m) } else { Err(Refusal::NoSuchThread) }\n        }\n        Record::Completion(m, i) | Record::Drop(m, i) => thread_answer(s, m, i),\n"),
+    ],
+    "head-anywhere": [(READING_TABLE, "    if r.table.threads != 0 {\n        return Err(Refusal::NotInItsPlace);\n    }\n", "")],
     "rows-may-miss": [
-        (LISTING, "    if let Answer::Refused(n) = a {\n        return stop(out, at, used, p, n);\n    }\n    let to", "    let to"),
+        (LISTING, "    if let Err(refusal) = reader::ended(r) {\n        return stop(out, turn, refusal);\n    }\n", ""),
     ],
     "deadline-before-fitting": [
-        (TICKS, "        z = next(z);\n", "        let y = z;\n        z = next(z);\n"),
-        (TICKS, "            used = text::granted(out, used, tick, b as u16, t.app, t.e, t.w);", "            let x = y.threads[b];\n            used = text::granted(out, used, tick, b as u16, t.app, x.e, t.w);"),
+        (TICKS, "        next(s);\n", "        let y = *s;\n        next(s);\n"),
+        (TICKS, "text::granted(out, used, tick, b as u16, t.app, t.e, t.w)", "text::granted(out, used, tick, b as u16, t.app, y.threads[b].e, t.w)"),
     ],
     "virtual-before-charge": [
-        (TICKS, "        z = next(z);\n", "        let y = z;\n        z = next(z);\n"),
-        (TICKS, "            used = text::granted(out, used, tick, b as u16, t.app, t.e, t.w);", "            let x = y.threads[b];\n            used = text::granted(out, used, tick, b as u16, t.app, t.e, x.w);"),
+        (TICKS, "        next(s);\n", "        let y = *s;\n        next(s);\n"),
+        (TICKS, "text::granted(out, used, tick, b as u16, t.app, t.e, t.w)", "text::granted(out, used, tick, b as u16, t.app, t.e, y.threads[b].w)"),
     ],
     "refused-at-the-end": [
-        (LISTING, "    if let Answer::Refused(m) = a {\n        return stop(out, at, used, p, m);\n    }\n    let next", "    if let Answer::Refused(m) = a {\n        return stop(out, at, used, reached(r, place + n as u64), m);\n    }\n    let next"),
-        (LISTING, "        Decoded::Refused(m) => stop(out, at, used, p, m),", "        Decoded::Refused(m) => stop(out, at, used, reached(p.reading, p.place + n as u64), m),"),
+        (LISTING, "        Err(refusal) => stop(out, turn, refusal),\n    }\n}\n\n// The ticks",
+         "        Err(refusal) => {\n            p.place += n as u64;\n            stop(out, turn, refusal);\n        }\n    }\n}\n\n// The ticks"),
+        (LISTING, "        Err(refusal) => stop(out, turn, refusal),\n    }\n}\n\n// The next part",
+         "        Err(refusal) => {\n            turn.progress.place += n as u64;\n            stop(out, turn, refusal);\n        }\n    }\n}\n\n// The next part"),
     ],
-    "no-sign": [(TEXT, "        let k = put_byte(out, at, b'-');\n        return put_decimal(out, k, n);", "        return put_decimal(out, at, n);")],
+    "no-sign": [(TEXT, "        if x.0 < 0 {\n            self.byte(b'-');\n        }\n        self.decimal(", "        self.decimal(")],
     # ---- request 8: what is lost, and who becomes inactive or active
-    "gift-is-lost": [(NOTED_EVENTS, "        return Amount(0);\n", "        return z;\n")],
-    "leaving-loses-nothing": [(NOTED_LEAVING, "rest(out, used, t, all, i, freed(x, until), until);", "rest(out, used, t, all, i, Amount(0), until);")],
-    "completion-loses-nothing": [(NOTED_EVENTS, "        return Amount(0);\n    }\n    z\n", "        return Amount(0);\n    }\n    Amount(0)\n")],
-    "leaving-unheard": [(NOTED_LEAVING, "    let n = s.count;\n", "    let n: usize = 0;\n")],
-    "leaving-ahead-of-the-clock": [
-        (NOTED_LEAVING, "use threads::amounts::{less, scaled, sub};\n", "use threads::amounts::{less, scaled, sub};\nuse threads::thread::{contends, inactive};\n"),
-        (NOTED_LEAVING, "        if leaves(x, until) {", "        if !inactive(x) && !contends(x) {"),
-    ],
-    "ending-ahead-of-the-clock": [(NOTED_EVENTS, "    if less(scaled(x.share, until), x.w) {", "    if less(x.w, x.w) {")],
-    "waking-at-each-arrival": [(NOTED_EVENTS, "    if !quiet(closed, x, until) {\n        return y;\n    }\n", "")],
+    "gift-is-lost": [(NOTED_EVENTS, "        Some(_) => Amount(0),\n", "        Some(_) => freed(x, s.clock),\n")],
+    "leaving-loses-nothing": [(NOTED_LEAVING, "freed(x, s.clock), s.clock);", "Amount(0), s.clock);")],
+    "completion-loses-nothing": [(NOTED_EVENTS, "        None => freed(x, s.clock),\n", "        None => Amount(0),\n")],
+    "leaving-unheard": [(NOTED_LEAVING, "    for i in 0..s.count {\n", "    for i in 0..0 {\n")],
+    "leaving-ahead-of-the-clock": [(NOTED_LEAVING, " && t.w <= scaled(t.share, now)\n", "\n")],
+    "ending-ahead-of-the-clock": [(NOTED_EVENTS, "    if x.jobs > 1 || scaled(x.share, s.clock) < x.w {", "    if x.jobs > 1 {")],
+    "waking-at-each-arrival": [(NOTED_EVENTS, "    if inactive(left_unless(s.closed, s.threads[k], s.clock)) {", "    if k < s.count {")],
     # ---- request 8: stretches
     "stretch-goes-on": [(ACTIVITY, "    if c.active == 0 {", "    if c.active != c.active {")],
     "stretch-begins-anew": [(ACTIVITY, "    if c.active == 0 {", "    if c.active == c.active {")],
-    "stretch-begins-late": [(ACTIVITY, "                since: now,\n", "                since: Moment(now.0 + 1),\n")],
-    "stretch-of-one-thread": [(LINES, "    if c.active != 0 {\n        return at;\n    }\n", "")],
-    "stretch-over-idle-ticks": [(NOTED_TICKS, "        let how = How::Idle;\n        let to = all_held(out, from, t, cs, tick, how);\n", "        let to = from;\n")],
-    "idle-end-is-even": [(NOTED_TICKS, "        let how = How::Idle;\n", "        let how = How::Over;\n")],
+    "stretch-begins-late": [(ACTIVITY, "            since: now,\n", "            since: Moment(now.0 + 1),\n")],
+    "stretch-of-one-thread": [(NOTED_LEAVING, "    if c.active != 0 {\n        return at;\n    }\n", "")],
+    "stretch-over-idle-ticks": [(NOTED_TICKS, "        let used = all_held(out, from, t, cs, tick, How::Idle);\n", "        let used = from;\n")],
+    "idle-end-is-even": [(NOTED_TICKS, "How::Idle", "How::Over")],
     # an application that is none has no activity to change
     "granted-by-thread": [
-        (NOTED_TICKS, "    let a = x.app as usize;\n    let mut all = cs;\n    let c = served(all[a]);\n    all[a] = c;\n",
-         "    let a = had;\n    let mut all = cs;\n    if a < Table::APPS {\n        let c = served(all[a]);\n        all[a] = c;\n    }\n"),
+        (NOTED_TICKS, "    activity::serve(&mut cs[t.rows[had].app as usize]);\n", "    if had < Table::APPS {\n        activity::serve(&mut cs[had]);\n    }\n"),
     ],
     # ---- request 8: the equation and the report
-    "share-of-all": [(LINES, "    if x.app != a {\n        return 0;\n    }\n", "")],
-    "one-tick-more-elapsed": [(LINES, "    let elapsed = until.0 - x.since.0;", "    let elapsed = until.0 + 1 - x.since.0;")],
-    "lost-taken-away": [(LINES, "    add(sub(given, due), c.lost)\n", "    sub(sub(given, due), c.lost)\n")],
-    "open-left-out": [(REPORT, "    let held = accounts::still_open(out, used, t, cs, r.state.clock);\n", "    let held = used;\n")],
+    "share-of-all": [(LINES, "        if x.app == a {\n", "        if x.app == x.app {\n")],
+    "one-tick-more-elapsed": [(LINES, "until.0 - c.stretch.since.0;", "until.0 + 1 - c.stretch.since.0;")],
+    "lost-taken-away": [(LINES, " + c.lost\n", " - c.lost\n")],
+    "open-left-out": [
+        (REPORT, "    let held = accounts::still_open(out, turn.written, &p.reading.table, &p.activities, now);\n", "    let held = turn.written;\n"),
+    ],
     "report-goes-on": [
-        (REPORT, "    if let Answer::Refused(m) = a {\n        return stop(out, at, used, p, m);\n    }\n    let next",
-         "    if let Answer::Refused(m) = a {\n        let held = accounts::still_open(out, used, r.table, cs, r.state.clock);\n        return stop(out, at, held, p, m);\n    }\n    let next"),
+        (REPORT, "        Err(refusal) => return stop(out, turn, refusal),\n    };\n",
+         "        Err(refusal) => {\n            let now = p.reading.state.clock;\n            turn.written = accounts::still_open(out, turn.written, &p.reading.table, &p.activities, now);\n            return stop(out, turn, refusal);\n        }\n    };\n"),
     ],
 }

@@ -15,7 +15,11 @@ def number_by(step):
 
 NAME = r"[a-z_]\w*(?:\.\w+)*"
 LITERAL = r"(?<![\w.\"'\[])\d+(?=[;,\s)\]]|$)"
-REFUSAL = r"(?<=[rR]efused\()\d+(?=[,)])"
+REFUSALS = [
+    "QOutsideItsRange", "ThreadsOutsideTheirRange", "NoSuchApplication", "ShareOutsideItsRange", "PeriodTooLong", "LessThanATick", "SharesAboveQ",
+    "NoSuchThread", "NotItsTick", "AfterAnArrival", "TooManyJobs", "BeforeTheClock", "BeyondTheEnd", "CutShort", "UnknownKind", "NotInItsPlace",
+    "RowTooShort",
+]
 
 # kind of change, and its patterns with what takes their place
 KINDS = {
@@ -31,17 +35,19 @@ KINDS = {
     ],
     "left out": [(r"^(\s*)[\w.\[\] ]+ \+?= [^;{}]+;$", r"\1")],
     "phase": other("Phase::Inactive", "Phase::Contending", "Phase::NonContending"),
-    "order": other("Order::Earlier", "Order::Equal", "Order::Later"),
+    "order": other("Ordering::Less", "Ordering::Equal", "Ordering::Greater"),
     "end": other("How::Over", "How::Idle", "How::Open"),
     "application": [
         (r"\bfree\[own\]", "free[0]"), (r"\bfree\[a\]", "free[0]"), (r"\bbest\[a\]", "best[0]"),
         (r"\ba != own\b", "a == own"), (r"\by\.app\b", "x.app"), (r"\bt\.app\b", "0"),
-        (r"\b[xz]\.app(?= as )", "0"), (r"\ball\[a\]", "all[0]"), (r"\bcs\[a\]", "cs[0]"),
+        (r"\b[xz]\.app(?= as )", "0"), (r"\bcs\[a\]", "cs[0]"), (r"\bcs\[t\.rows\[\w+\]\.app as usize\]", "cs[0]"),
     ],
-    "refusal": [(REFUSAL, number_by(1)), (REFUSAL, number_by(-1)), (r"Answer::Refused\(\d+\)", "Answer::Done")],
+    # the refusal of the number before or after it
+    "refusal": [
+        (rf"Refusal::{REFUSALS[i]}\b", f"Refusal::{REFUSALS[j]}") for i in range(17) for j in (i - 1, i + 1) if 0 <= j < 17
+    ],
     "loop": [
-        (r"(?<=while )(\w+) < ", r"\1 + 1 < "), (r"(?<=while )(\w+) < ", r"\1 <= "), (r"(?<=: usize = )0;", "1;"),
-        (r" \+= 1;", " += 2;"), (r"(?<=while )(\w+) < (\w+)(?= \{)", r"\1 < \2 - 1"),
+        (r"(?<= in )0\.\.", "1.."), (r"(?<= in 0\.\.)([\w.:]+)(?= \{)", r"\1 - 1"), (r"\[\.\.([\w.]+)\]", r"[1..\1]"), (r" \+= 1;", " += 2;"),
     ],
     "constant": [
         (LITERAL, number_by(1)), (LITERAL, number_by(-1)), (r"Table::NOBODY", "0"), (r"Table::NOBODY", "Table::APPS"),

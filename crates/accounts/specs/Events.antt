@@ -1,26 +1,27 @@
 -- Events that are noted: a completion and an arrival, as the code finds them.
-use Rattle.std.specs.Prelude.{◌≡◌, Bool, ◌&&◌, List, [], ◌∷◌, ◌++◌, ℕ, ◌≤◌, ◌<◌, eqb, ltb, pos, set}
+use Rattle.std.specs.Prelude.{◌≡◌, Bool, List, [], ◌∷◌, ◌++◌, ℕ, ◌≤◌, ◌<◌, eqb, ltb, pos, set}
 use Rattle.std.proofs.Math.Path.{refl}
 use Rattle.std.proofs.Common.{sym, ap, ◌∙◌, arith}
-use Rattle.std.proofs.Math.Bool.{true, false, not, cond}
+use Rattle.std.proofs.Math.Bool.{true, false, cond}
 use Rattle.std.specs.Int.Signed.{lt_z}
 use Rattle.lists.specs.MapTo.{map_to, map_has}
 use Rattle.quantities.specs.declared.Moment.{Moment}
-use Rattle.rules.specs.Limits.{nobody, apps}
-use Rattle.rules.specs.Threads.{Thread, State, Amount, amt, blank, at, with_rows, scaled, is_inactive, is_non, idle}
+use Rattle.rules.specs.Limits.{nobody, max_q, max_threads, apps}
+use Rattle.rules.specs.Threads.{Thread, State, Amount, amt, blank, at, with_rows, scaled, is_inactive}
 use Rattle.rules.specs.Table.{Table, Answer, Answered, Done, Refused}
 use Rattle.rules.specs.Leaving.{leave, gone}
 use Rattle.rules.specs.Completion.{freed, completion}
 use Rattle.rules.specs.Arrival.{arrival}
 use Rattle.rules.specs.Drop.{dropped}
-use Rattle.rules.specs.History.{Fate, received, unreceived, completed, arrived, dropped_to_head, if_done, became_active, became_inactive, fate_of, receiver_in, retiring, leaves, leavings, waking, happens}
+use Rattle.rules.specs.History.{Fate, received, unreceived, completed, arrived, dropped_to_head, if_done, became_active, became_inactive, fate_of, receiver_in, retiring, leavings, waking, happens}
 use Rattle.rules.specs.Stretches.{Activity, activity_at, lost_as, rests, wakes, noted, ends, over_at, app_of}
 use Rattle.rules.specs.Report.{over_lines, stand}
 use Rattle.rules.specs.Calls as calls
-use Rattle.promises.specs.Cases.{by_test, true_false}
+use Rattle.promises.specs.Cases.{true_false}
 use Rattle.promises.specs.Branches.{by_completion, by_arrival}
 use Rattle.promises.specs.Good.{Good, Leads}
-use Rattle.promises.specs.Ready.{gone_beside}
+use Rattle.promises.specs.Ready.{gone_beside, steady}
+use Rattle.promises.specs.Sound.{sound}
 use Rattle.stretches.specs.Standing.{Kept}
 use Rattle.stretches.specs.Bounds.{in_range}
 use Rattle.stretches.specs.Events.{goes_completing}
@@ -38,14 +39,31 @@ accepted (Refused n) = false
 refused_not : {X : Type 0} (n : ℕ) → Refused n ≡ Done → X
 refused_not n e = absurd (true_false (sym (ap accepted e)))
 
-pub record Completes (s : State) (k : ℕ) : Type 0 where
+record Completes (s : State) (k : ℕ) : Type 0 where
   pub inside : k < s.count
   pub leads : Leads s.count s.threads k
 
-pub completes : {s : State} (k : ℕ) → Good s → (completion s k).answer ≡ Done → Completes s k
+completes : {s : State} (k : ℕ) → Good s → (completion s k).answer ≡ Done → Completes s k
 completes {s} k g =
     by_completion s (λ (r : Answered). r.answer ≡ Done → Completes s k) k (λ n e. refused_not n e)
     (λ h c d e _. record { inside = h; leads = rw e (g.head_start c d (rw (← e) h)) })
+
+-- its thread is one of the table's
+module _ (s : State) (k : ℕ) (g : Good s) where
+  below : k < s.count → k < max_threads
+  below h = omega (arith, h, g.rows.few)
+
+  share : k < s.count → (at s.threads k).share ≤ max_q
+  share h = ((sound (steady g)).ok k h).share_max
+
+  pub completes_inside : (completion s k).answer ≡ Done → k < s.count
+  completes_inside d = (completes k g d).inside
+
+  pub completes_below : (completion s k).answer ≡ Done → k < max_threads
+  completes_below d = below (completes_inside d)
+
+  pub completes_share : (completion s k).answer ≡ Done → (at s.threads k).share ≤ max_q
+  completes_share d = share (completes_inside d)
 
 module _ {t : Table} {s : State} {cs : List Activity} (good : Good s) (kept : Kept t s cs) (k : ℕ) (done : (completion s k).answer ≡ Done) where
   abbrev x : Thread
@@ -79,55 +97,40 @@ module _ {t : Table} {s : State} {cs : List Activity} (good : Good s) (kept : Ke
     retires = rw (e, f)
 
     -- what is lost where it is received or not
-    lost_is : (z : Amount) → z ≡ cond (not (eqb (receiver_in s k) nobody)) (amt (pos 0)) (amt (freed now x)) → z.0 ≡ lost_as fate (freed now x)
+    lost_is : (z : Amount) → z ≡ cond (eqb (receiver_in s k) nobody) (amt (freed now x)) (amt (pos 0)) → z.0 ≡ lost_as fate (freed now x)
     lost_is z h = ap (λ (y : Amount). y.0) h ∙ go (eqb (receiver_in s k) nobody)
       where
-        go : (b : Bool) → (cond (not b) (amt (pos 0)) (amt (freed now x))).0 ≡ lost_as (cond b unreceived (received (receiver_in s k))) (freed now x)
+        go : (b : Bool) → (cond b (amt (freed now x)) (amt (pos 0))).0 ≡ lost_as (cond b unreceived (received (receiver_in s k))) (freed now x)
         go true = refl
         go false = refl
 
-    pub completed_rests : (z : Amount) → z ≡ cond (not (eqb (receiver_in s k) nobody)) (amt (pos 0)) (amt (freed now x)) → Rests t cs k z.0 now
+    pub completed_rests : (z : Amount) → z ≡ cond (eqb (receiver_in s k) nobody) (amt (freed now x)) (amt (pos 0)) → Rests t cs k z.0 now
     unfolding retiring
     completed_rests z h =
         let c = completes k good done in
         rw (lost_is z h) (rests_goes k (freed now x) fate c.inside good.q_max good.time
         (rw (e, f) at (goes_completing kept k c.inside (runs_active x.phase c.leads.runs))))
 
-    pub completed_ends : (z : Amount) → z ≡ cond (not (eqb (receiver_in s k) nobody)) (amt (pos 0)) (amt (freed now x)) → {out out' : List ℕ} {from used : ℕ} {cs' : List Activity}
+    pub completed_ends : (z : Amount) → z ≡ cond (eqb (receiver_in s k) nobody) (amt (freed now x)) (amt (pos 0)) → {out out' : List ℕ} {from used : ℕ} {cs' : List Activity}
         → Put out from (over_lines t (over_at now (app_of t k) (rests z.0 (activity_at cs (app_of t k))))) out' used → cs' ≡ set cs (app_of t k) (rests z.0 (activity_at cs (app_of t k)))
         → Tells t cs (happens s (calls.complete k)) out from out' used cs'
     completed_ends z h p q = tells_then_retiring (rw retires (tells_rest k now (freed now x) fate (rw (lost_is z h) at p) (rw (lost_is z h) at q)))
 
 -- ---- an arrival that is accepted
-pub arrives : (s : State) (k : ℕ) → (arrival s k).answer ≡ Done → k < s.count
+arrives : (s : State) (k : ℕ) → (arrival s k).answer ≡ Done → k < s.count
 arrives s k = by_arrival s (λ (r : Answered). r.answer ≡ Done → k < s.count) k (λ n e. refused_not n e) (λ h _ _. h)
+
+-- its thread is one of the table's
+module _ (s : State) (k : ℕ) (g : Good s) (d : (arrival s k).answer ≡ Done) where
+  pub arrives_below : k < max_threads
+  arrives_below = below s k g (arrives s k d)
+
+  pub arrives_share : (at s.threads k).share ≤ max_q
+  arrives_share = share s k g (arrives s k d)
 
 -- is the thread inactive once those that leave have left?
 abbrev quiet_as : Bool → ℕ → Thread → Bool
 quiet_as closed now x = is_inactive (cond closed x (leave now x)).phase
-
-module _ (closed : Bool) (now : ℕ) (x : Thread) where
-  leave_phase : (leave now x).phase ≡ cond (leaves now x) (idle x).phase x.phase
-  unfolding leave
-  leave_phase = go (is_non x.phase) (lt_z (scaled x now) x.w.0)
-    where
-      go : (b c : Bool) → (cond b (cond c x (idle x)) x).phase ≡ cond (b && not c) (idle x).phase x.phase
-      go true true = refl
-      go true false = refl
-      go false c = refl
-
-  pub quiet_rests : is_inactive x.phase ≡ true → quiet_as closed now x ≡ true
-  quiet_rests e = by_test (λ (y : Thread). is_inactive y.phase ≡ true) closed (λ _. e) (λ _. ap is_inactive leave_phase ∙ by_test (λ p. is_inactive p ≡ true) (leaves now x) (λ _. refl) (λ _. e))
-
-  pub quiet_closed : is_inactive x.phase ≡ false → closed ≡ true → quiet_as closed now x ≡ false
-  quiet_closed e c = rw (c, e)
-
-  pub quiet_open : is_inactive x.phase ≡ false → closed ≡ false → quiet_as closed now x ≡ leaves now x
-  quiet_open e c = rw c (ap is_inactive leave_phase ∙ go (leaves now x))
-    where
-      go : (b : Bool) → is_inactive (cond b (idle x).phase x.phase) ≡ b
-      go true = refl
-      go false = e
 
 module _ {t : Table} {s : State} {cs : List Activity} (good : Good s) (kept : Kept t s cs) (k : ℕ) (done : (arrival s k).answer ≡ Done) where
   gone_at : at (gone s).threads k ≡ cond s.closed (at s.threads k) (leave s.clock.0 (at s.threads k))

@@ -1,12 +1,13 @@
 -- The lines of stretches as the code puts them: what their numbers have to be, and the lines of those that hold.
-use Rattle.std.specs.Prelude.{◌≡◌, refl, Bool, true, false, cond, List, [], ◌∷◌, ◌++◌, ℕ, zero, suc, ◌+◌, ◌*◌, ◌≤◌, ◌<◌, eqb, ℤ, pos, ◌+ℤ◌, ◌-ℤ◌, length}
-use Rattle.std.proofs.Common.{sym, ap, ◌∙◌, subst, append-nil, add-one, arith, SFits}
+use Rattle.std.specs.Prelude.{◌≡◌, refl, Bool, true, false, cond, List, [], ◌∷◌, ◌++◌, ℕ, zero, suc, ◌+◌, ◌*◌, ◌≤◌, ◌<◌, eqb, ℤ, pos, ◌+ℤ◌, ◌-ℤ◌, length, take}
+use Rattle.std.proofs.Common.{sym, ap, ◌∙◌, subst, append-nil, add-one, add-zero, arith, SFits, eq-eqb, ne_eqb}
 use Rattle.std.proofs.Math.Decide.{ℕ_discrete}
+use Rattle.std.proofs.lemmas.List.{get_or-take, length-take}
 use Rattle.std.specs.Int.{w64}
 use Rattle.integers.specs.Parts.{sub_parts, sfits_parts}
 use Rattle.rules.specs.Limits.{max_q, max_threads, apps, clock_end}
 use Rattle.rules.specs.Threads.{Thread, Amount, amt}
-use Rattle.rules.specs.Table.{Table, Row, row_at}
+use Rattle.rules.specs.Table.{Table, Row, row_at, no_row}
 use Rattle.rules.specs.Stretches.{Activity, Stretch, activity_at, share_to, share_of, elapsed, balance, over_at, cut_at, cut_to}
 use Rattle.rules.specs.Report.{stretch_line, over_lines, open_line, open_lines}
 use Rattle.text.specs.declared.report.How.{How}
@@ -23,12 +24,12 @@ pub record Fair (t : Table) (a : ℕ) : Type 0 where
   pub few : t.threads ≤ max_threads
   pub most : share_of a t ≤ max_q
 
-pub share_more : (a : ℕ) (rows : List Row) (i : ℕ) → share_to a rows (i + 1) ≡ share_to a rows i + cond (eqb (row_at rows i).app a) (row_at rows i).share 0
+share_more : (a : ℕ) (rows : List Row) (i : ℕ) → share_to a rows (i + 1) ≡ share_to a rows i + cond (eqb (row_at rows i).app a) (row_at rows i).share 0
 unfolding share_to
 share_more a rows i = ap (λ k. share_to a rows k) (add-one i)
 
 -- what is summed so far is at most the whole
-pub share_le : (a : ℕ) (rows : List Row) (i n : ℕ) → i ≤ n → share_to a rows i ≤ share_to a rows n
+share_le : (a : ℕ) (rows : List Row) (i n : ℕ) → i ≤ n → share_to a rows i ≤ share_to a rows n
 unfolding share_to
 share_le a rows i zero h = rw (zero_only i h) (omega arith)
   where
@@ -39,6 +40,21 @@ share_le a rows i (suc n) h = by (λ k. share_le a rows i n k) (ℕ_discrete i (
     by : (i ≤ n → share_to a rows i ≤ share_to a rows n) → Dec (i ≡ suc n) → share_to a rows i ≤ share_to a rows (suc n)
     by ih (yes e) = rw e (omega arith)
     by ih (no f) = omega (arith, ih (omega (arith, f)))
+
+-- the code walks the first n rows
+module _ (a : ℕ) (rows : List Row) (n i : ℕ) (h : i < length (take n rows)) where
+  walked : row_at (take n rows) i ≡ row_at rows i
+  walked = get_or-take n rows i no_row (omega (arith, h, length-take n rows))
+
+  pub share_own : (row_at (take n rows) i).app ≡ a → share_to a rows i + (row_at (take n rows) i).share ≡ share_to a rows (i + 1)
+  share_own e = rw (share_more, ← walked, eq-eqb _ _ e) refl
+
+  pub share_other : ((row_at (take n rows) i).app ≡ a → ⊥) → share_to a rows i ≡ share_to a rows (i + 1)
+  share_other f = rw (share_more, ← walked, ne_eqb _ _ f) (sym (add-zero (share_to a rows i)))
+
+  -- and each share of the application fits
+  pub share_fits : (row_at (take n rows) i).app ≡ a → share_to a rows i + (row_at (take n rows) i).share ≤ share_to a rows n
+  share_fits e = omega (arith, share_own e, share_le a rows (i + 1) n (omega (arith, h, length-take n rows)))
 
 -- ---- the sum of W − u × t, by the ticks elapsed
 abbrev pub balance_of : ℕ → ℕ → ℕ → Stretch → ℤ
@@ -99,9 +115,17 @@ unfoldable pub held_lines : Table → How → ℕ → List Activity → ℕ → 
 held_lines t how m cs zero = []
 held_lines t how m cs (suc a) = held_lines t how m cs a ++ held_line t how m a (activity_at cs a)
 
-pub held_more : (t : Table) (how : How) (m : ℕ) (cs : List Activity) (a : ℕ) → held_lines t how m cs a ++ held_line t how m a (activity_at cs a) ≡ held_lines t how m cs (a + 1)
-unfolding held_lines
-held_more t how m cs a = ap (λ k. held_lines t how m cs k) (sym (add-one a))
+module _ (t : Table) (how : How) (m : ℕ) (cs : List Activity) (a : ℕ) where
+  held_more : held_lines t how m cs a ++ held_line t how m a (activity_at cs a) ≡ held_lines t how m cs (a + 1)
+  unfolding held_lines
+  held_more = ap (λ k. held_lines t how m cs k) (sym (add-one a))
+
+  -- where one holds, and where none does
+  pub held_one : ((activity_at cs a).active ≡ 0 → ⊥) → held_lines t how m cs a ++ line_of t a m (activity_at cs a) how ≡ held_lines t how m cs (a + 1)
+  held_one f = rw (← held_more, ne_eqb _ _ f) refl
+
+  pub held_none : (activity_at cs a).active ≡ 0 → held_lines t how m cs a ≡ held_lines t how m cs (a + 1)
+  held_none e = rw (← held_more, eq-eqb _ _ e) (sym (append-nil (held_lines t how m cs a)))
 
 -- where the input ends
 pub held_open : (t : Table) (m : ℕ) (cs : List Activity) (n : ℕ) → held_lines t Open m cs n ≡ open_lines t m cs n

@@ -15,23 +15,18 @@ ghost use Rattle.text.specs.Wide.{wide};
 ghost use Rattle.accounts.specs.Told.{Tells};
 ghost use Rattle.accounts.specs.Rest.{Rests};
 
-use crate::Marked;
-use crate::activity::rested;
-use crate::lines::over;
+use crate::activity;
+use crate::lines::line;
 use quantities::{Activity, Amount, Moment, Phase, State, Table, Thread};
-use threads::amounts::{less, scaled, sub};
+use text::report::How;
+use threads::amounts::scaled;
 
 // Is the thread one that leaves at the moment now?
-pub fn leaves(t: Thread, now: Moment) -> bool
+fn leaves(t: Thread, now: Moment) -> bool
     requires { t.share ≤ max_q }
     ensures { result ≡ history.leaves now.0 t }
 {
-    let p = t.phase;
-    match p {
-        Phase::Inactive => false,
-        Phase::Contending => false,
-        Phase::NonContending => !less(scaled(t.share, now), t.w),
-    }
+    t.phase == Phase::NonContending && t.w <= scaled(t.share, now)
 }
 
 // u × t − W.
@@ -39,70 +34,54 @@ pub fn freed(t: Thread, now: Moment) -> Amount
     requires { RowOk t }
     ensures { result ≡ amt (completion.freed now.0 t) }
 {
-    sub(scaled(t.share, now), t.w)
+    scaled(t.share, now) - t.w
 }
 
-// The thread i becomes inactive, and z is lost.
+// The thread i becomes inactive, and z is lost: its application's stretch may be over.
 pub fn rest(
     out: &mut [u8],
     at: usize,
-    t: Table,
-    cs: [Activity; Table::APPS],
+    t: &Table,
+    cs: &mut [Activity; Table::APPS],
     i: usize,
     z: Amount,
     until: Moment,
-) -> Marked
-    requires { Rests t cs i z.0 until.0 × (at + wide ≤ length out.old) }
-    ensures put { Put out.old at (over_lines t (over_at until.0 (app_of t i) (rests z.0 (activity_at cs (app_of t i))))) out.new result.used }
-    ensures activities_value { (result.activities ≡ set cs (app_of t i) (rests z.0 (activity_at cs (app_of t i)))) × (result.used ≤ at + wide) }
+) -> usize
+    requires { Rests t.now cs.old i z.0 until.0 × (at + wide ≤ length out.old) }
+    ensures put { Put out.old at (over_lines t.now (over_at until.0 (app_of t.now i) (rests z.0 (activity_at cs.old (app_of t.now i))))) out.new result }
+    ensures activities_value { cs.new ≡ set cs.old (app_of t.now i) (rests z.0 (activity_at cs.old (app_of t.now i))) }
+    ensures upper_bound { result ≤ at + wide }
 {
-    let x = t.rows[i];
-    let a = x.app as usize;
-    let mut all = cs;
-    let c = rested(all[a], z);
-    all[a] = c;
-    let used = over(out, at, t, a, c, until);
-    Marked {
-        used: used,
-        activities: all,
+    let a = t.rows[i].app as usize;
+    let c = &mut cs[a];
+    activity::rest(c, z);
+    if c.active != 0 {
+        return at;
     }
+    line(out, at, t, a, *c, until, How::Over)
 }
 
 // Step 2: those that leave.
 pub fn leaving(
     out: &mut [u8],
     from: usize,
-    t: Table,
-    cs: [Activity; Table::APPS],
-    s: State,
-) -> Marked
-    requires { Good s × Kept t s cs × (from + max_threads * wide ≤ length out.old) }
-    ensures tells { Tells t cs (leavings s) out.old from out.new result.used result.activities }
-    ensures used_bound { result.used ≤ from + max_threads * wide }
+    t: &Table,
+    cs: &mut [Activity; Table::APPS],
+    s: &State,
+) -> usize
+    requires { Good s.now × Kept t.now s.now cs.old × (from + max_threads * wide ≤ length out.old) }
+    ensures tells { Tells t.now cs.old (leavings s.now) out.old from out.new result cs.new }
+    ensures used_bound { result ≤ from + max_threads * wide }
 {
-    let n = s.count;
-    let until = s.clock;
-    let mut all = cs;
-    let mut used = from;
     if s.closed {
-        return Marked {
-            used: used,
-            activities: all,
-        };
+        return from;
     }
-    let mut i: usize = 0;
-    while i < n {
+    let mut used = from;
+    for i in 0..s.count {
         let x = s.threads[i];
-        if leaves(x, until) {
-            let y = rest(out, used, t, all, i, freed(x, until), until);
-            used = y.used;
-            let z = y.activities;
-            all = z;
+        if leaves(x, s.clock) {
+            used = rest(out, used, t, cs, i, freed(x, s.clock), s.clock);
         }
-        i += 1;
     }
-    Marked {
-        used: used,
-        activities: all,
-    }
+    used
 }

@@ -17,46 +17,30 @@ mod lines;
 pub mod ticks;
 
 use crate::lines::all_held;
-use quantities::{Activity, Amount, Moment, Stretch, Table};
+use quantities::{Activity, Moment, Table};
 use text::report::How;
 
 // There is room for all lines of a tick, or of an event.
 pub const ROOM: usize = 16384;
 
-// How far lines were written, and where the applications then stand.
-#[derive(Clone, Copy)]
-pub struct Marked {
-    pub used: usize,
-    pub activities: [Activity; Table::APPS],
-}
-
 // No thread of any application has been active.
 pub fn begin() -> [Activity; Table::APPS]
     ensures { result ≡ all_quiet }
 {
-    let c = Activity {
-        active: 0,
-        stretch: Stretch {
-            since: Moment(0),
-            granted: 0,
-            lost: Amount(0),
-        },
-    };
-    [c; Table::APPS]
+    [Activity::default(); Table::APPS]
 }
 
 // The lines of the stretches that hold at the moment `until`.
 pub fn still_open(
     out: &mut [u8],
     from: usize,
-    t: Table,
-    cs: [Activity; Table::APPS],
+    t: &Table,
+    cs: &[Activity; Table::APPS],
     until: Moment,
 ) -> usize
-    requires { KeptAt t cs until.0 × (from + room ≤ length out.old) }
-    ensures put { Put out.old from (open_lines t until.0 cs apps) out.new result }
+    requires { KeptAt t.now cs.now until.0 × (from + room ≤ length out.old) }
+    ensures put { Put out.old from (open_lines t.now until.0 cs.now apps) out.new result }
     ensures upper_bound { result ≤ from + room }
 {
-    let how = How::Open;
-    all_held(out, from, t, cs, until, how)
+    all_held(out, from, t, cs, until, How::Open)
 }

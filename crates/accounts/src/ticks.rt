@@ -7,85 +7,56 @@ ghost use Rattle.text.specs.Wide.{wide};
 ghost use Rattle.accounts.specs.Told.{Tells};
 ghost use Rattle.accounts.specs.Ticks.{had_as, Taken, NotedTo};
 
-use crate::activity::{all_forgotten, served};
 use crate::leaving::leaving;
 use crate::lines::all_held;
-use crate::{Marked, ROOM};
+use crate::{ROOM, activity};
 use quantities::{Activity, Moment, State, Table};
 use schedule::step::next;
 use text::report::How;
-
-// How far lines were written, where the applications then stand, and the schedule.
-#[derive(Clone, Copy)]
-pub struct Noted {
-    pub used: usize,
-    pub activities: [Activity; Table::APPS],
-    pub state: State,
-}
 
 // A tick that `had` had, or nobody: it is granted, or cuts short all stretches that hold.
 fn taken(
     out: &mut [u8],
     from: usize,
-    t: Table,
-    cs: [Activity; Table::APPS],
+    t: &Table,
+    cs: &mut [Activity; Table::APPS],
     had: usize,
     tick: Moment,
-) -> Marked
-    requires { Taken t cs had tick.0 × (from + apps * wide ≤ length out.old) }
-    ensures tells { Tells t cs (had_as had tick.0 ∷ []) out.old from out.new result.used result.activities }
-    ensures used_bound { result.used ≤ from + apps * wide }
+) -> usize
+    requires { Taken t.now cs.old had tick.0 × (from + apps * wide ≤ length out.old) }
+    ensures tells { Tells t.now cs.old (had_as had tick.0 ∷ []) out.old from out.new result cs.new }
+    ensures used_bound { result ≤ from + apps * wide }
 {
     if had == Table::NOBODY {
-        let how = How::Idle;
-        let to = all_held(out, from, t, cs, tick, how);
-        let none = all_forgotten(cs);
-        return Marked {
-            used: to,
-            activities: none,
-        };
+        let used = all_held(out, from, t, cs, tick, How::Idle);
+        activity::forget_all(cs);
+        return used;
     }
-    let x = t.rows[had];
-    let a = x.app as usize;
-    let mut all = cs;
-    let c = served(all[a]);
-    all[a] = c;
-    Marked {
-        used: from,
-        activities: all,
-    }
+    activity::serve(&mut cs[t.rows[had].app as usize]);
+    from
 }
 
-// Notes ticks, n at most, while there is room.
+// Notes ticks, n at most, while there is room, and leads the schedule through them.
 pub fn ticks(
     out: &mut [u8],
     from: usize,
-    t: Table,
-    cs: [Activity; Table::APPS],
-    s: State,
+    t: &Table,
+    cs: &mut [Activity; Table::APPS],
+    s: &mut State,
     n: u32,
-) -> Noted
-    requires { Given s × Kept t s cs × (s.clock.0 + n ≤ clock_end) × (from ≤ length out.old) }
-    ensures { NotedTo t cs s n out.old from out.new result.used result.activities result.state }
+) -> usize
+    requires { Given s.old × Kept t.now s.old cs.old × (s.old.clock.0 + n ≤ clock_end) × (from ≤ length out.old) }
+    ensures { NotedTo t.now cs.old s.old n out.old from out.new result cs.new s.new }
 {
-    let mut z = s;
-    let mut all = cs;
     let mut used = from;
-    let mut i: u32 = 0;
-    while i < n && out.len() - used >= ROOM {
-        let tick = z.clock;
-        let x = leaving(out, used, t, all, z);
-        let left = x.activities;
-        z = next(z);
-        let y = taken(out, x.used, t, left, z.had, tick);
-        used = y.used;
-        let then = y.activities;
-        all = then;
-        i += 1;
+    for _ in 0..n {
+        if out.len() - used < ROOM {
+            break;
+        }
+        let tick = s.clock;
+        used = leaving(out, used, t, cs, s);
+        next(s);
+        used = taken(out, used, t, cs, s.had, tick);
     }
-    Noted {
-        used: used,
-        activities: all,
-        state: z,
-    }
+    used
 }

@@ -1,4 +1,3 @@
-pub mod Shell
-pub mod Kept
-pub mod Roomy
+pub mod Calls
+pub mod Went
 pub mod Reached

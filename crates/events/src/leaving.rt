@@ -7,22 +7,15 @@ use quantities::State;
 use threads::thread::left;
 
 // Step 2.
-pub fn leaving(s: State) -> State
-    requires { Sound s }
-    ensures { result ≡ gone s }
+#[tactic(auto, unfolding(rules::specs::Leaving::gone))]
+pub fn leaving(s: &mut State)
+    requires { Sound s.old }
+    ensures { s.new ≡ gone s.old }
 {
     if s.closed {
-        return s;
+        return;
     }
-    let n = s.count;
-    let now = s.clock;
-    let mut z = s;
-    let mut i: usize = 0;
-    while i < n {
-        let t = z.threads[i];
-        let u = left(t, now);
-        z.threads[i] = u;
-        i += 1;
+    for i in 0..s.count {
+        s.threads[i] = left(s.threads[i], s.clock);
     }
-    z
 }

@@ -1,6 +1,10 @@
 // Refusals 1 to 7: of a head, of a row, and of a whole table.
-use crate::say::{answer, end_line, number};
-use quantities::{Row, Table};
+ghost use Rattle.std.specs.Prelude.{◌≡◌};
+ghost use Rattle.rules.specs.Limits.{usual_period};
+ghost use Rattle.rules.specs.Table.{opening};
+
+use crate::say::answer;
+use quantities::{Row, State, Table};
 
 pub fn row_of(app: u16, share: u16, period: u32) -> Row {
     Row { app, share, period }
@@ -15,51 +19,45 @@ pub fn alike(q: u16, threads: u16, x: Row) -> Table {
     }
 }
 
+// The schedule of a table; of a refused one there is none, so no thread.
+pub fn schedule_of(t: Table) -> State
+    ensures { result ≡ (opening usual_period t).state }
+{
+    tables::begin(t).unwrap_or(tables::no_schedule())
+}
+
 fn head(rt: &impl Print, q: u16, threads: u16) {
-    number(rt, b"head, Q ", q as u64);
-    number(rt, b", threads ", threads as u64);
-    answer(rt, b": admitted", tables::head(q, threads));
-    end_line(rt);
+    let _ = print!(rt; "head, Q {q}, threads {threads}");
+    answer(rt, "admitted", &tables::head(q, threads));
+    let _ = println!(rt);
 }
 
 fn row(rt: &impl Print, q: u16, before: u32, app: u16, share: u16, period: u32) {
-    number(rt, b"row, Q ", q as u64);
-    number(rt, b", shares before it ", before as u64);
-    number(rt, b", application ", app as u64);
-    number(rt, b", share ", share as u64);
-    number(rt, b", period ", period as u64);
+    let _ = print!(rt;
+        "row, Q {q}, shares before it {before}, application {app}, share {share}, period {period}"
+    );
     answer(
         rt,
-        b": admitted",
-        tables::row(q, before, row_of(app, share, period)),
+        "admitted",
+        &tables::row(q, before, row_of(app, share, period)),
     );
-    end_line(rt);
+    let _ = println!(rt);
 }
 
-// Of a refused table there is no schedule, so no thread.
 fn begin(rt: &impl Print, t: Table) {
-    let a = tables::begin(t);
-    let r = a.answer;
-    let s = a.state;
-    answer(rt, b": admitted", r);
-    number(rt, b", a schedule of ", s.count as u64);
-    end_line(rt);
+    answer(rt, "admitted", &tables::begin(t));
+    let _ = println!(rt; ", a schedule of {}", schedule_of(t).count);
 }
 
 fn table(rt: &impl Print, q: u16, threads: u16, share: u16) {
-    number(rt, b"table, Q ", q as u64);
-    number(rt, b", threads ", threads as u64);
-    number(rt, b" of share ", share as u64);
+    let _ = print!(rt; "table, Q {q}, threads {threads} of share {share}");
     begin(rt, alike(q, threads, row_of(15, share, 65536)));
 }
 
 fn table_of_two(rt: &impl Print, share: u16, app: u16, next: u16) {
-    number(rt, b"table, Q 10, share ", share as u64);
-    number(rt, b", then application ", app as u64);
-    number(rt, b" and share ", next as u64);
+    let _ = print!(rt; "table, Q 10, share {share}, then application {app} and share {next}");
     let mut t = alike(10, 2, row_of(0, share, 10));
-    let x = row_of(app, next, 10);
-    t.rows[1] = x;
+    t.rows[1] = row_of(app, next, 10);
     begin(rt, t);
 }
 
@@ -111,11 +109,11 @@ fn tables_whole(rt: &impl Print) {
 
 // 0 in a row stands for 100.
 fn usual_period(rt: &impl Print) {
-    let a = tables::begin(alike(100, 1, row_of(0, 1, 0)));
-    let s = a.state;
-    let t = s.threads[0];
-    number(rt, b"table, period 0: a thread of period ", t.period as u64);
-    end_line(rt);
+    let s = schedule_of(alike(100, 1, row_of(0, 1, 0)));
+    let _ = println!(rt;
+        "table, period 0: a thread of period {}",
+        s.threads[0].period
+    );
 }
 
 pub fn run(rt: &impl Print) {

@@ -2,25 +2,19 @@
 ghost use Rattle.rules.specs.Calls.{Given};
 
 use crate::calls::{arrival, begun, completion, dropping, tick};
-use crate::say::{end_line, number};
 use events::arrive;
 use quantities::State;
 
 // So many arrivals of thread 0, without a line for each.
-fn arrivals(rt: &impl Print, s: State, n: u32) -> State
+fn arrivals(rt: &impl Print, mut s: State, n: u32) -> State
     requires { Given s }
     ensures { Given result }
 {
-    number(rt, b"arrivals of thread 0: ", n as u64);
-    end_line(rt);
-    let mut z = s;
-    let mut k: u32 = 0;
-    while k < n {
-        let a = arrive(z, 0);
-        z = a.state;
-        k += 1;
+    let _ = println!(rt; "arrivals of thread 0: {n}");
+    for _ in 0..n {
+        s = arrive(s, 0).unwrap_or(s);
     }
-    z
+    s
 }
 
 pub fn run(rt: &impl Print) {

@@ -3,9 +3,9 @@ ghost use Rattle.std.specs.Prelude.{◌≤◌, ◌≡◌};
 ghost use Rattle.rules.specs.Limits.{clock_end};
 ghost use Rattle.rules.specs.Calls.{Given};
 
-use crate::admission::{alike, row_of};
+use crate::admission::{alike, row_of, schedule_of};
 use crate::calls::{arrival, completion, passing, run_into, tick};
-use crate::say::{clock, number};
+use crate::say::clock;
 use quantities::{Moment, State};
 use schedule::step;
 
@@ -15,11 +15,10 @@ fn late(t: u32) -> State
     requires { t ≤ clock_end }
     ensures { Given result × (result.clock.0 ≡ t) }
 {
-    let a = tables::begin(alike(1, 1, row_of(0, 1, 1)));
-    let mut s = a.state;
-    let m = Moment(t);
-    s.clock = m;
-    s
+    State {
+        clock: Moment(t),
+        ..schedule_of(alike(1, 1, row_of(0, 1, 1)))
+    }
 }
 
 // A tick without an answer: at the clock's end nothing changes.
@@ -27,9 +26,10 @@ fn next(rt: &impl Print, s: State) -> State
     requires { Given s }
     ensures { Given result }
 {
-    let z = step::next(s);
-    number(rt, b"next after ", s.clock.0 as u64);
-    clock(rt, z.clock.0);
+    let mut z = s;
+    step::next(&mut z);
+    let _ = print!(rt; "next after {}", s.clock.0);
+    clock(rt, z.clock);
     z
 }
 

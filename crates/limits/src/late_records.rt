@@ -1,10 +1,19 @@
 // Records at the clock's end.
 ghost use Rattle.std.specs.Prelude.{◌≤◌, ◌≡◌};
 ghost use Rattle.rules.specs.Limits.{clock_end};
+ghost use Rattle.rules.specs.Reading.{record_read};
 ghost use Rattle.rules.specs.Input.{GivenReading};
 
-use crate::say::clock;
-use quantities::{Moment, Reading, Record, Row};
+use crate::say;
+use quantities::{Moment, Reading, Record, Row, State};
+
+// The reading after a record; a refused one leaves it as it was.
+fn after(r: Reading, e: Record) -> Reading
+    requires { GivenReading r }
+    ensures { result ≡ (record_read r e).reading }
+{
+    reader::record(r, e).unwrap_or(r)
+}
 
 // A head and its one row, read, at the moment t, where no event has come. That records give it is
 // proved.
@@ -12,31 +21,31 @@ fn read_late(t: u32) -> Reading
     requires { t ≤ clock_end }
     ensures { GivenReading result × (result.state.clock.0 ≡ t) }
 {
-    let h = reader::record(reader::begin(), Record::Head(1, 1));
-    let x = Row {
+    let headed = after(reader::begin(), Record::Head(1, 1));
+    let row = Row {
         app: 0,
         share: 1,
         period: 1,
     };
-    let o = reader::record(h.reading, Record::Row(x));
-    let mut z = o.reading;
-    let mut s = z.state;
-    let m = Moment(t);
-    s.clock = m;
-    z.state = s;
-    z
+    let r = after(headed, Record::Row(row));
+    Reading {
+        state: State {
+            clock: Moment(t),
+            ..r.state
+        },
+        ..r
+    }
 }
 
 // A record with the moment t; what it says stands beside it.
-fn taking(rt: &impl Print, r: Reading, what: &[u8], t: u32, e: Record) -> Reading
+fn taking(rt: &impl Print, r: Reading, what: &str, t: u32, e: Record) -> Reading
     requires { GivenReading r }
     ensures { GivenReading result }
 {
     let x = reader::record(r, e);
-    let a = x.answer;
-    let z = x.reading;
-    crate::say::run(rt, r.state.clock.0, what, t, a);
-    clock(rt, z.state.clock.0);
+    let z = x.unwrap_or(r);
+    say::run(rt, r.state.clock, what, t, &x);
+    say::clock(rt, z.state.clock);
     z
 }
 
@@ -47,7 +56,7 @@ fn arrival(rt: &impl Print, r: Reading, t: u32) -> Reading
     taking(
         rt,
         r,
-        b", record of an arrival at ",
+        "record of an arrival at",
         t,
         Record::Arrival(Moment(t), 0),
     )
@@ -57,7 +66,7 @@ fn run_to(rt: &impl Print, r: Reading, t: u32) -> Reading
     requires { GivenReading r }
     ensures { GivenReading result }
 {
-    taking(rt, r, b", record of a run to ", t, Record::RunTo(Moment(t)))
+    taking(rt, r, "record of a run to", t, Record::RunTo(Moment(t)))
 }
 
 pub fn run(rt: &impl Print) {

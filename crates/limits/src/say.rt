@@ -1,74 +1,38 @@
 // What is written: a line for each call, with the moment, what was tried and what was answered.
-use quantities::{Answer, Outcome};
-
-pub fn end_line(rt: &impl Print) {
-    let _ = rt.write_all(b"\n");
-}
-
-pub fn number(rt: &impl Print, word: &[u8], n: u64) {
-    let _ = rt.write_all(word);
-    let _ = rt.print(n);
-}
+use quantities::{Moment, Outcome, Refusal};
 
 // The word for what is taken, or a refusal's number.
-pub fn answer(rt: &impl Print, word: &[u8], a: Answer) {
-    match a {
-        Answer::Done => {
-            let _ = rt.write_all(word);
-        }
-        Answer::Refused(n) => {
-            number(rt, b": refused ", n as u64);
-        }
-    }
+pub fn answer<T>(rt: &impl Print, word: &str, r: &Result<T, Refusal>) {
+    let _ = match r {
+        Ok(_) => print!(rt; ": {word}"),
+        Err(e) => print!(rt; ": refused {}", *e as u8),
+    };
 }
 
-// An event of the thread i, and how many jobs it has then.
-pub fn event(rt: &impl Print, at: u32, what: &[u8], i: u16, a: Answer, jobs: u32) {
-    number(rt, b"at ", at as u64);
-    number(rt, what, i as u64);
-    answer(rt, b": accepted", a);
-    number(rt, b", jobs ", jobs as u64);
-    end_line(rt);
-}
-
-pub fn step(rt: &impl Print, at: u32, o: Outcome) {
-    number(rt, b"at ", at as u64);
-    match o {
-        Outcome::Grant(i) => {
-            number(rt, b", step: grant ", i as u64);
-        }
-        Outcome::Idle => {
-            let _ = rt.write_all(b", step: idle");
-        }
-        Outcome::Refused(n) => {
-            number(rt, b", step: refused ", n as u64);
-        }
-    }
+pub fn step(rt: &impl Print, at: Moment, o: Outcome) {
+    let _ = print!(rt; "at {}, step: ", at.0);
+    let _ = match o {
+        Outcome::Grant(i) => print!(rt; "grant {i}"),
+        Outcome::Idle => print!(rt; "idle"),
+        Outcome::Refused(n) => print!(rt; "refused {n}"),
+    };
 }
 
 // A run to a moment, or a record of a moment.
-pub fn run(rt: &impl Print, at: u32, what: &[u8], to: u32, a: Answer) {
-    number(rt, b"at ", at as u64);
-    number(rt, what, to as u64);
-    answer(rt, b": done", a);
-}
-
-fn wide(x: u16) -> u64 {
-    x as u64
+pub fn run<T>(rt: &impl Print, at: Moment, what: &str, to: u32, r: &Result<T, Refusal>) {
+    let _ = print!(rt; "at {}, {what} {to}", at.0);
+    answer(rt, "done", r);
 }
 
 // The entries of a row.
 pub fn entries(rt: &impl Print, row: &[u16]) {
-    let _ = rt.write_all(b", row");
-    let mut i: usize = 0;
-    while i < row.len() {
-        number(rt, b" ", wide(row[i]));
-        i += 1;
+    let _ = print!(rt; ", row");
+    for x in row {
+        let _ = print!(rt; " {x}");
     }
 }
 
 // Where the clock stands then.
-pub fn clock(rt: &impl Print, now: u32) {
-    number(rt, b", clock ", now as u64);
-    end_line(rt);
+pub fn clock(rt: &impl Print, now: Moment) {
+    let _ = println!(rt; ", clock {}", now.0);
 }

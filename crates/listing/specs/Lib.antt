@@ -1,4 +1,3 @@
-pub mod Turns
 pub mod Way
 pub mod Moves
 pub mod Listed

@@ -1,10 +1,11 @@
 -- Which move a call makes, by what the code has found.
-use Rattle.std.specs.Prelude.{◌≡◌, Bool, true, false, List, [], ℕ, suc, ◌≤◌, ◌<◌}
+use Rattle.std.specs.Prelude.{◌≡◌, Bool, true, false, List, [], ℕ, Some, suc, ◌≤◌, ◌<◌}
 use Rattle.std.proofs.Math.Path.{refl, ap}
 use Rattle.std.proofs.Common.{◌∙◌}
 use native.Mathlib.Omega.{arith}
 use borrow.Author.Tests.{eq-eqb, ne_eqb, lt-ltb, le-ltb, le-leb, lt-leb}
 use Rattle.std.proofs.Math.ListN.{length}
+use Rattle.std.proofs.lemmas.Option.{none-some, same_Some}
 use Rattle.rules.specs.Limits.{nobody, max_jobs}
 use Rattle.rules.specs.Threads.{at}
 use Rattle.rules.specs.Table.{Answer, Done}
@@ -16,8 +17,7 @@ use Rattle.rules.specs.Listing.{tick_line, ending}
 use Rattle.windows.specs.Advance.{Progress, longest, widest, farthest, finished, went, ticked, stays, moves, stops, read_move, record_move, decoded_move, frame_move, move}
 use Rattle.windows.specs.Plain.{touched, jobs_after, recounted, plain_reads}
 use Rattle.windows.specs.Readings.{given_reading}
-use Rattle.listing.specs.declared.sweep.Seen.{Seen}
-use Rattle.listing.specs.Way.{nothing_seen, seen_decoded, seen_frame, seen_at}
+use Rattle.listing.specs.Way.{seen_decoded, seen_frame, seen_at}
 
 module _ (last : Bool) (room : ℕ) (p : Progress) (w : List ℕ) where
   -- ---- no move
@@ -58,24 +58,21 @@ module _ (last : Bool) (room : ℕ) (p : Progress) (w : List ℕ) where
     moves_refused kind n m e k = by_frame ∙ rw (e, k)
 
     -- a record that is seen
-    pub moves_seen : (n : ℕ) (e : Record) → 0 < n → seen_at w ≡ record { length = n; what = e } → move last room p w ≡ record_move p n e
+    pub moves_seen : (n : ℕ) (e : Record) → 0 < n → seen_at w ≡ Some (e, n) → move last room p w ≡ record_move p n e
     unfolding seen_at
     moves_seen n e some s = by_frame ∙ frame (frame_of w) refl s
       where
-        no : nothing_seen ≡ record { length = n; what = e } → ⊥
-        no z = let k = ap (λ (x : Seen). x.length) z in omega arith
+        decode : (k : ℕ) (x : Decoded) → seen_decoded k x ≡ Some (e, n) → decoded_move p k x ≡ record_move p n e
+        decode k (Known y) z = ap (λ (v : Record × ℕ). record_move p v.1 v.0) (same_Some _ _ z)
+        decode k (records.Refused m) z = absurd (none-some _ z)
 
-        decode : (k : ℕ) (x : Decoded) → seen_decoded k x ≡ record { length = n; what = e } → decoded_move p k x ≡ record_move p n e
-        decode k (Known y) z = ap (λ (v : Seen). record_move p v.length v.what) z
-        decode k (records.Refused m) z = absurd (no z)
-
-        frame : (x : Frame) → frame_of w ≡ x → seen_frame w x ≡ record { length = n; what = e } → frame_move last p w x ≡ record_move p n e
-        frame Ended q z = absurd (no z)
-        frame Cut q z = absurd (no z)
+        frame : (x : Frame) → frame_of w ≡ x → seen_frame w x ≡ Some (e, n) → frame_move last p w x ≡ record_move p n e
+        frame Ended q z = absurd (none-some _ z)
+        frame Cut q z = absurd (none-some _ z)
         frame (Whole kind k) q z = decode k (decoded kind (body_of w k)) z
 
     -- ---- a record for which no tick is due
-    module _ (n : ℕ) (e : Record) (some : 0 < n) (seen : seen_at w ≡ record { length = n; what = e }) where
+    module _ (n : ℕ) (e : Record) (some : 0 < n) (seen : seen_at w ≡ Some (e, n)) where
       pub moves_read : ticks_due p.reading e ≡ 0 → (a : Answer) (r : Reading) → record_read p.reading e ≡ record { answer = a; reading = r } → move last room p w ≡ read_move p n a r
       moves_read due a r x = moves_seen n e some seen ∙ rw (eq-eqb _ _ due, x)
 

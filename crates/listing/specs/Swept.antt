@@ -1,77 +1,59 @@
 -- Records that are read one after the other without a line.
-use Rattle.std.specs.Prelude.{◌≡◌, refl, Bool, true, false, cond, eqb, ltb, List, [], ℕ, ◌+◌, ◌-◌, ◌≤◌, ◌<◌, length, drop}
-use Rattle.std.proofs.Common.{sym, ap, ◌∙◌, subst, ltb-true, add-zero, arith, length-drop}
+use Rattle.std.specs.Prelude.{◌≡◌, refl, Bool, true, false, cond, eqb, leb, ltb, List, [], ℕ, None, Some, ◌+◌, ◌-◌, ◌≤◌, ◌<◌, length, drop}
+use Rattle.std.proofs.Common.{sym, ap, ◌∙◌, subst, leb-true, ltb-true, add-zero, arith, length-drop}
+use Rattle.std.proofs.lemmas.Option.{none-some, same_Some, cond_some}
+use Rattle.std.proofs.lemmas.Bool.{eqb-false}
 use Rattle.rules.specs.Limits.{nobody, max_jobs}
-use Rattle.rules.specs.Threads.{State, at}
+use Rattle.rules.specs.Threads.{at, someone}
 use Rattle.rules.specs.Records.{Frame, Ended, Cut, Whole, Record, Head, Decoded, Known, frame_of, body_of, decoded}
 use Rattle.rules.specs.Records as records
-use Rattle.rules.specs.Reading.{Reading, Read, with_state}
+use Rattle.rules.specs.Reading.{Read, with_state}
 use Rattle.rules.specs.Input.{GivenReading}
-use Rattle.windows.specs.Advance.{Progress, longest, farthest}
+use Rattle.windows.specs.Advance.{Progress, farthest, went}
 use Rattle.windows.specs.Plain.{at_once, touched, jobs_after, recounted, plain_reads}
 use Rattle.windows.specs.Readings.{given_reading, reading_by}
 use Rattle.windows.specs.Inputs.{whole_within}
 use Rattle.windows.specs.Along.{Along, along_none, along_then, along_move}
-use Rattle.listing.specs.declared.sweep.Seen.{Seen}
-use Rattle.listing.specs.Way.{seen_decoded, seen_frame, seen_at, reached_at, SweptTo}
+use Rattle.listing.specs.Way.{few, seen_decoded, seen_frame, seen_at, SweptTo}
 use Rattle.listing.specs.Moves.{moves_plain}
 
--- a record that touches a thread is there
-pub seen_within : (v : List ℕ) (t n : ℕ) → (touched (seen_at v).what t n ≡ nobody → ⊥) → (0 < (seen_at v).length) × ((seen_at v).length ≤ length v)
+-- a record that is seen is there
+pub seen_within : (v : List ℕ) (e : Record) (n : ℕ) → seen_at v ≡ Some (e, n) → (0 < n) × (n ≤ length v)
 unfolding seen_at
-seen_within v t n some = frame (frame_of v) refl some
+seen_within v e n s = frame (frame_of v) refl s
   where
-    Within : Seen → Type 0
-    Within x = (touched x.what t n ≡ nobody → ⊥) → (0 < x.length) × (x.length ≤ length v)
+    decode : (kind k : ℕ) → frame_of v ≡ Whole kind k → (d : Decoded) → seen_decoded k d ≡ Some (e, n) → (0 < n) × (n ≤ length v)
+    decode kind k q (Known y) z = let h = whole_within v kind k q in let i = ap (λ (x : Record × ℕ). x.1) (same_Some _ _ z) in (omega (arith, h.0, i), omega (arith, h.1, i))
+    decode kind k q (records.Refused m) z = absurd (none-some _ z)
 
-    decode : (kind k : ℕ) → frame_of v ≡ Whole kind k → (d : Decoded) → Within (seen_decoded k d)
-    decode kind k q (Known e) s = let h = whole_within v kind k q in (omega (arith, h.0), h.1)
-    decode kind k q (records.Refused m) s = absurd (s refl)
+    frame : (f : Frame) → frame_of v ≡ f → seen_frame v f ≡ Some (e, n) → (0 < n) × (n ≤ length v)
+    frame Ended q z = absurd (none-some _ z)
+    frame Cut q z = absurd (none-some _ z)
+    frame (Whole kind k) q z = decode kind k q (decoded kind (body_of v k)) z
 
-    frame : (f : Frame) → frame_of v ≡ f → Within (seen_frame v f)
-    frame Ended q s = absurd (s refl)
-    frame Cut q s = absurd (s refl)
-    frame (Whole kind k) q s = decode kind k q (decoded kind (body_of v k)) s
+module _ (w : List ℕ) (from : ℕ) (p : Progress) where
+  pub sweep_none : GivenReading p.reading → from ≤ length w → SweptTo w from p from p
+  sweep_none g h = record { given = g; along = λ last out used k. along_none last w out from used p h (omega arith); takes = omega arith; within = h }
 
--- on the way, with the state s
-pub record Sweeping (w : List ℕ) (from : ℕ) (r : Reading) (place₀ : ℕ) (s : State) (place at : ℕ) : Type 0 where
-  pub given : GivenReading (with_state r s)
-  pub takes : from ≤ at
-  pub within : at ≤ length w
-  pub along : (last : Bool) (out : List ℕ) (used : ℕ) → used + longest ≤ length out → Along last w out from used (reached_at r place₀) out at used (reached_at (with_state r s) place)
+  -- on the way, a record that is seen
+  module _ (to : ℕ) (q : Progress) (z : SweptTo w from p to q) (e : Record) (n : ℕ) (seen : seen_at (drop to w) ≡ Some (e, n)) where
+    pub steps_on : (0 < n) × (to + n ≤ length w)
+    steps_on = let h = seen_within (drop to w) e n seen in (h.0, omega (arith, h.1, length-drop to w, z.within))
 
-module _ (w : List ℕ) (from : ℕ) (r : Reading) (place₀ : ℕ) where
-  pub sweep_none : GivenReading r → from ≤ length w → Sweeping w from r place₀ r.state place₀ from
-  sweep_none g h = record { given = g; takes = omega arith; within = h; along = λ last out used k. along_none last w out from used (reached_at r place₀) h (omega arith) }
-
-  module _ (s : State) (place from' : ℕ) (z : Sweeping w from r place₀ s place from') (near : place ≤ farthest) (x : Seen) (seen : x ≡ seen_at (drop from' w)) (k : ℕ) (t : k ≡ touched x.what s.clock.0 s.count) (some : k ≡ nobody → ⊥) where
-    pub steps_on : (0 < x.length) × (from' + x.length ≤ length w)
-    steps_on =
-        let h = seen_within (drop from' w) s.clock.0 s.count (λ e. some (t ∙ ap (λ (y : Seen). touched y.what s.clock.0 s.count) seen ∙ e)) in
-        let e = ap (λ (y : Seen). y.length) seen in
-        (omega (arith, h.0, e), omega (arith, h.1, e, length-drop from' w, z.within))
-
-    pub sweep_more : (j : ℕ) → j ≡ jobs_after (at s.threads k) x.what s.closed → j ≤ max_jobs → Sweeping w from r place₀ (recounted s k j) (place + x.length) (from' + x.length)
-    sweep_more j js few = record {
-      given = subst (λ (y : Read). GivenReading y.reading) (plain_reads (with_state r s) (given_reading z.given) x.what k j (sym t) some (sym js) few).1 (reading_by z.given x.what);
-      takes = omega (arith, z.takes);
-      within = steps_on.1;
+    -- .. and swept
+    pub sweep_more : q.done ≡ false → q.place ≤ farthest → (k j : ℕ) → touched e q.reading.state.clock.0 q.reading.state.count ≡ k → (k ≡ nobody → ⊥) → jobs_after (at q.reading.state.threads k) e q.reading.state.closed ≡ j → j ≤ max_jobs
+        → SweptTo w from p (to + n) (went q n (with_state q.reading (recounted q.reading.state k j)))
+    sweep_more undone near k j t some js few = record {
+      given = subst (λ (y : Read). GivenReading y.reading) (plain_reads q.reading (given_reading z.given) e k j t some js few).1 (reading_by z.given e);
       along = λ last out used room.
           along_then last w (z.along last out used room)
-          (subst (λ (u : ℕ). Along last w out from' used (reached_at (with_state r s) place) out (from' + x.length) u (reached_at (with_state r (recounted s k j)) (place + x.length))) (add-zero used)
-          (along_move last w out from' used (reached_at (with_state r s) place) z.within x.length [] (reached_at (with_state r (recounted s k j)) (place + x.length))
-          (moves_plain last (length out - used) (reached_at (with_state r s) place) (drop from' w) refl (omega (arith, room)) near x.length x.what steps_on.0 (sym seen) z.given k j (sym t) some (sym js) few)
+          (subst (λ (u : ℕ). Along last w out to used q out (to + n) u (went q n (with_state q.reading (recounted q.reading.state k j)))) (add-zero used)
+          (along_move last w out to used q z.within n [] (went q n (with_state q.reading (recounted q.reading.state k j)))
+          (moves_plain last (length out - used) q (drop to w) undone (omega (arith, room)) near n e steps_on.0 seen z.given k j t some js few)
           (omega (arith, room))));
+      takes = omega (arith, z.takes);
+      within = steps_on.1;
     }
-
--- the records that were swept, from any progress that is not done
-pub swept_to : (w : List ℕ) (from : ℕ) (p : Progress) → p.done ≡ false → (s : State) (place from' : ℕ) → Sweeping w from p.reading p.place s place from' → SweptTo w from p from' (reached_at (with_state p.reading s) place)
-swept_to w from p d s place from' z = record {
-  given = z.given;
-  along = λ last out used room. subst (λ (b : Bool). Along last w out from used (record { reading = p.reading; place = p.place; done = b }) out from' used (reached_at (with_state p.reading s) place)) (sym d) (z.along last out used room);
-  takes = z.takes;
-  within = z.within;
-}
 
 once_in : (m : records.Moment) (i t n k : ℕ) → k ≡ at_once m i t n → (k ≡ nobody → ⊥) → k < n
 once_in m i t n k e f = go (eqb m.0 t) (ltb i n) refl e
@@ -89,3 +71,14 @@ touched_in (records.Arrival m i) t n k e f = once_in m i t n k e f
 touched_in (records.Completion m i) t n k e f = absurd (f e)
 touched_in (records.RunTo m) t n k e f = absurd (f e)
 touched_in (records.Drop m i) t n k e f = once_in m i t n k e f
+
+-- ---- as the code finds them
+pub someone_is : (b : ℕ) {k : ℕ} → Some k ≡ someone b → (b ≡ k) × (k ≡ nobody → ⊥)
+someone_is b {k} e = go (eqb b nobody) refl e
+  where
+    go : (t : Bool) → eqb b nobody ≡ t → Some k ≡ cond t None (Some b) → (b ≡ k) × (k ≡ nobody → ⊥)
+    go true q h = absurd (none-some _ (sym h))
+    go false q h = let i = same_Some _ _ h in (sym i, λ f. eqb-false b nobody q (sym i ∙ f))
+
+pub few_is : (n : ℕ) {j : ℕ} → Some j ≡ few n → (n ≡ j) × (j ≤ max_jobs)
+few_is n e = let h = cond_some (leb n max_jobs) n _ (sym e) in (h.1, subst (λ (k : ℕ). k ≤ max_jobs) h.1 (leb-true n max_jobs h.0))

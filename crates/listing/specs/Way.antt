@@ -1,22 +1,21 @@
 -- What the parts of a call bring.
 use Rattle.std.proofs.Math.Path.{◌≡◌, refl, ap}
-use Rattle.std.specs.Prelude.{Bool, List, ℕ, ◌+◌, ◌-◌, ◌≤◌, ◌<◌, length, drop}
+use Rattle.std.specs.Prelude.{Bool, List, ℕ, Option, None, Some, leb, ◌+◌, ◌-◌, ◌≤◌, ◌<◌, length, drop}
 use Rattle.std.proofs.Math.Bool.{true, false, cond}
 use Rattle.std.proofs.Common.{arith}
 use Rattle.std.proofs.lemmas.List.Edits.{sets}
+use Rattle.rules.specs.Limits.{max_jobs}
 use Rattle.rules.specs.Threads.{State}
 use Rattle.rules.specs.Table.{Answer, Done, Refused, number_of}
 use Rattle.rules.specs.Run.{state_after}
-use Rattle.rules.specs.Records.{Frame, Ended, Cut, Whole, Record, Head, Decoded, Known, frame_of, body_of, decoded}
+use Rattle.rules.specs.Records.{Frame, Ended, Cut, Whole, Record, Decoded, Known, frame_of, body_of, decoded}
 use Rattle.rules.specs.Records as records
-use Rattle.rules.specs.Reading.{Reading, at_events}
+use Rattle.rules.specs.Reading.{Reading, with_state, at_events}
 use Rattle.rules.specs.Input.{GivenReading, end_read}
 use Rattle.rules.specs.Listing.{tick_lines, refusal_line, end_line, ending}
 use Rattle.windows.specs.Advance.{Progress, longest, widest, farthest, stays, move, Advanced}
 use Rattle.windows.specs.Along.{Along}
 use Rattle.quantities.specs.declared.Turn.{Turn}
-use Rattle.listing.specs.declared.sweep.Seen.{Seen}
-use Rattle.listing.specs.declared.Acted.{Acted}
 
 -- the answer of a call
 abbrev pub turn_of : Advanced → Turn
@@ -25,27 +24,28 @@ turn_of a = record { taken = a.taken; written = length a.text; progress = a.prog
 pub turn_as : (a : Advanced) (taken written : ℕ) (q : Progress) → a.taken ≡ taken → length a.text ≡ written → a.progress ≡ q → record { taken = taken; written = written; progress = q } ≡ turn_of a
 turn_as a taken written q e f g = rw (← e, ← f, ← g)
 
--- ---- the record at the start of a window, where it is whole and known
-abbrev pub nothing_seen : Seen
-nothing_seen = record { length = 0; what = Head 0 0 }
+-- so many jobs, unless a thread may not have them
+abbrev pub few : ℕ → Option ℕ
+few n = cond (leb n max_jobs) (Some n) None
 
-abbrev pub seen_decoded : ℕ → Decoded → Seen
-seen_decoded n (Known e) = record { length = n; what = e }
-seen_decoded n (records.Refused m) = nothing_seen
+-- ---- the record at the start of a window, where it is whole and known, and its length
+abbrev pub seen_decoded : ℕ → Decoded → Option (Record × ℕ)
+seen_decoded n (Known e) = Some (e, n)
+seen_decoded n (records.Refused m) = None
 
-abbrev pub seen_frame : List ℕ → Frame → Seen
-seen_frame w Ended = nothing_seen
-seen_frame w Cut = nothing_seen
+abbrev pub seen_frame : List ℕ → Frame → Option (Record × ℕ)
+seen_frame w Ended = None
+seen_frame w Cut = None
 seen_frame w (Whole kind n) = seen_decoded n (decoded kind (body_of w n))
 
-unfoldable pub seen_at : List ℕ → Seen
+unfoldable pub seen_at : List ℕ → Option (Record × ℕ)
 seen_at w = seen_frame w (frame_of w)
 
-pub seen_known : (w : List ℕ) (kind n : ℕ) (e : Record) → frame_of w ≡ Whole kind n → decoded kind (body_of w n) ≡ Known e → record { length = n; what = e } ≡ seen_at w
+pub seen_known : (w : List ℕ) (kind n : ℕ) (e : Record) → frame_of w ≡ Whole kind n → decoded kind (body_of w n) ≡ Known e → Some (e, n) ≡ seen_at w
 unfolding seen_at
 seen_known w kind n e f d = rw (f, d)
 
-pub seen_refused : (w : List ℕ) (kind n m : ℕ) → frame_of w ≡ Whole kind n → decoded kind (body_of w n) ≡ records.Refused m → nothing_seen ≡ seen_at w
+pub seen_refused : (w : List ℕ) (kind n m : ℕ) → frame_of w ≡ Whole kind n → decoded kind (body_of w n) ≡ records.Refused m → None ≡ seen_at w
 unfolding seen_at
 seen_refused w kind n m f d = rw (f, d)
 
@@ -61,7 +61,7 @@ pub record Stands (w : List ℕ) (from n : ℕ) (e : Record) : Type 0 where
   pub some : 0 < n
   pub most : n ≤ widest
   pub within : from + n ≤ length w
-  pub is : seen_at (drop from w) ≡ record { length = n; what = e }
+  pub is : seen_at (drop from w) ≡ Some (e, n)
 
 -- ---- a whole record that stands there
 pub record Framed (w : List ℕ) (from kind n : ℕ) : Type 0 where
@@ -85,23 +85,29 @@ pub record ListedTo (out : List ℕ) (from : ℕ) (s : State) (n : ℕ) (out' : 
   pub listed : Listed out from s n count out' used z
   pub ended : count < n → length out < used + longest
 
--- ---- a call that can make a move
-pub record Open (w out : List ℕ) (from used : ℕ) (p : Progress) : Type 0 where
-  pub given : GivenReading p.reading
-  pub undone : p.done ≡ false
-  pub near : p.place ≤ farthest
-  pub within : from ≤ length w
-  pub room : used + longest ≤ length out
+-- ---- a call on its way: the bytes taken and written, and how far the listing has come
+abbrev pub turn_at : ℕ → ℕ → Progress → Turn
+turn_at taken written p = record { taken = taken; written = written; progress = p }
 
--- a listing that is not done
-abbrev pub reached_at : Reading → ℕ → Progress
-reached_at r place = record { reading = r; place = place; done = false }
+-- .. the listing with the state after ticks
+abbrev pub with_ticks : Progress → State → Progress
+with_ticks p s = record { reading = with_state p.reading s; place = p.place; done = p.done }
 
-abbrev pub acted_as : Bool → ℕ → ℕ → Progress → Acted
-acted_as goes at used p = record { goes = goes; at = at; used = used; progress = p }
+-- one that can make a move
+pub record Open (w out : List ℕ) (x : Turn) : Type 0 where
+  pub given : GivenReading x.progress.reading
+  pub undone : x.progress.done ≡ false
+  pub near : x.progress.place ≤ farthest
+  pub within : x.taken ≤ length w
+  pub room : x.written + longest ≤ length out
 
-pub acted_at : (goes : Bool) (at used u : ℕ) (p q : Progress) → u ≡ used → q ≡ p → record { goes = goes; at = at; used = u; progress = q } ≡ acted_as goes at used p
-acted_at goes at used u p q e f = rw (e, f)
+-- it is along from x at y
+abbrev pub AlongTo : Bool → List ℕ → List ℕ → Turn → List ℕ → Turn → Type 0
+AlongTo last w out x out' y = Along last w out x.taken x.written x.progress out' y.taken y.written y.progress
+
+-- the bytes that are left to it
+abbrev pub left_of : List ℕ → List ℕ → Turn → ℕ
+left_of w out x = length out - x.written + (length w - x.taken)
 
 -- ---- how an input ends, by what reading answers at its end
 module _ (r : Reading) (b : ℕ) where
@@ -121,17 +127,17 @@ module _ (r : Reading) (b : ℕ) where
       go true d = let z : ◌≡◌ {A = ℕ} 0 1 = cc in absurd (omega arith)
       go false d = ap (λ (a : Answer). refusal_line (number_of a) b) d
 
--- ---- where a call stands, and that it ends where there is no move
-pub record Stage (last : Bool) (w out : List ℕ) (from used : ℕ) (p : Progress) (out' : List ℕ) (x : Acted) : Type 0 where
-  pub given : GivenReading x.progress.reading
-  pub along : Along last w out from used p out' x.at x.used x.progress
-  pub ends : x.goes ≡ false → move last (length out - x.used) x.progress (drop x.at w) ≡ stays
+-- ---- where a call stands after parts of it
+pub record Stage (last : Bool) (w out : List ℕ) (x : Turn) (out' : List ℕ) (y : Turn) : Type 0 where
+  pub given : GivenReading y.progress.reading
+  pub along : AlongTo last w out x out' y
 
--- ---- a part of a call, which goes on where it took or wrote a byte
-pub record ActedTo (last : Bool) (w out : List ℕ) (from used : ℕ) (p : Progress) (out' : List ℕ) (x : Acted) : Type 0 where
-  pub stage : Stage last w out from used p out' x
-  pub less : x.goes ≡ true → length out - x.used + (length w - x.at) < length out - used + (length w - from)
+-- ---- a part of a call, after which it goes on, since a byte was taken or written, or ends, where there is no move
+pub record ActedTo (last : Bool) (w out : List ℕ) (x : Turn) (out' : List ℕ) (y : Turn) (goes : Bool) : Type 0 where
+  pub stage : Stage last w out x out' y
+  pub less : goes ≡ true → left_of w out y < left_of w out x
+  pub ends : goes ≡ false → move last (length out - y.written) y.progress (drop y.taken w) ≡ stays
 
--- .. whether the window is the last or not
-pub record ActedAny (w out : List ℕ) (from used : ℕ) (p : Progress) (out' : List ℕ) (x : Acted) : Type 0 where
-  pub any : (last : Bool) → ActedTo last w out from used p out' x
+-- .. after which it goes on, whether the window is the last or not
+pub record ActedOn (w out : List ℕ) (x : Turn) (out' : List ℕ) (y : Turn) : Type 0 where
+  pub any : (last : Bool) → ActedTo last w out x out' y true

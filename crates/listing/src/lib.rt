@@ -1,212 +1,121 @@
 // The listing of a trace: from windows of the input into a lent output.
 #![tactic(auto)]
 
-ghost use Rattle.std.specs.Prelude.{◌≡◌, true, false, ◌+◌, ◌≤◌, length};
+ghost use Rattle.std.specs.Prelude.{◌≡◌, ◌+◌, ◌≤◌, length};
 ghost use Rattle.std.proofs.lemmas.List.Edits.{sets};
 ghost use Rattle.rules.specs.Reading.{ticks_due};
+ghost use Rattle.rules.specs.Refusals.{number};
 ghost use Rattle.rules.specs.Input.{GivenReading};
 ghost use Rattle.rules.specs.Listing.{refusal_line, ending};
 ghost use Rattle.windows.specs.Advance as window;
 ghost use Rattle.windows.specs.Advance.{GivenProgress, longest, finished, begun};
-ghost use Rattle.listing.specs.Way.{turn_of, Stands, Framed, Open, acted_as, ActedTo, ActedAny};
+ghost use Rattle.listing.specs.Way.{turn_of, turn_at, Stands, Framed, Open, ActedOn, ActedTo};
 
-mod progress;
 mod sweep;
 mod ticks;
 
-use crate::progress::{FARTHEST, WIDEST, done_with, reached};
 use crate::sweep::sweep;
 use crate::ticks::ticks;
-use quantities::{Answer, Decoded, Frame, Progress, Record, Turn};
+use quantities::{Frame, Progress, Record, Refusal, Turn};
 use text::LONGEST;
 
-// Where a call stands after a part of it, and whether it goes on.
-#[derive(Clone, Copy)]
-pub struct Acted {
-    pub goes: bool,
-    pub at: usize,
-    pub used: usize,
-    pub progress: Progress,
-}
+// No record is longer; no record starts later.
+const WIDEST: usize = 65537;
+
+const FARTHEST: u64 = 18446744073709486078;
 
 // The listing begins: nothing is read, and the heading line is written by its own function.
 pub fn begin() -> Progress
     ensures { result ≡ begun }
 {
-    reached(reader::begin(), 0)
-}
-
-// No move can be made.
-fn stay(at: usize, used: usize, p: Progress) -> Acted
-    ensures { result ≡ acted_as false at used p }
-{
-    Acted {
-        goes: false,
-        at: at,
-        used: used,
-        progress: p,
+    Progress {
+        reading: reader::begin(),
+        place: 0,
+        done: false,
     }
 }
 
 // The last line is a refusal.
-fn stop(out: &mut [u8], at: usize, used: usize, p: Progress, n: u8) -> Acted
-    requires { used + longest ≤ length out.old }
-    ensures value { result ≡ acted_as true at (used + length (refusal_line n p.place)) (finished p) }
-    ensures out_after { out.new ≡ sets out.old used (refusal_line n p.place) }
+fn stop(out: &mut [u8], turn: &mut Turn, e: Refusal)
+    requires { turn.old.written + longest ≤ length out.old }
+    ensures value { turn.new ≡ turn_at turn.old.taken (turn.old.written + length (refusal_line (number e) turn.old.progress.place)) (finished turn.old.progress) }
+    ensures out_after { out.new ≡ sets out.old turn.old.written (refusal_line (number e) turn.old.progress.place) }
 {
-    let to = text::refusal(out, used, n, p.place);
-    Acted {
-        goes: true,
-        at: at,
-        used: to,
-        progress: done_with(p),
-    }
+    turn.written = text::refusal(out, turn.written, e as u8, turn.progress.place);
+    turn.progress.done = true;
 }
 
 // The input ends between records.
-fn finish(out: &mut [u8], at: usize, used: usize, p: Progress) -> Acted
-    requires { used + longest ≤ length out.old }
-    ensures value { result ≡ acted_as true at (used + length (ending p.reading p.place)) (finished p) }
-    ensures out_after { out.new ≡ sets out.old used (ending p.reading p.place) }
+fn finish(out: &mut [u8], turn: &mut Turn)
+    requires { turn.old.written + longest ≤ length out.old }
+    ensures value { turn.new ≡ turn_at turn.old.taken (turn.old.written + length (ending turn.old.progress.reading turn.old.progress.place)) (finished turn.old.progress) }
+    ensures out_after { out.new ≡ sets out.old turn.old.written (ending turn.old.progress.reading turn.old.progress.place) }
 {
-    let x = reader::ended(p.reading, p.place as usize);
-    let a = x.answer;
-    if let Answer::Refused(n) = a {
-        return stop(out, at, used, p, n);
+    let r = &turn.progress.reading;
+    if let Err(refusal) = reader::ended(r) {
+        return stop(out, turn, refusal);
     }
-    let to = text::end(out, used, p.reading.state.clock.0);
-    Acted {
-        goes: true,
-        at: at,
-        used: to,
-        progress: done_with(p),
+    turn.written = text::end(out, turn.written, r.state.clock.0);
+    turn.progress.done = true;
+}
+
+// The record e of n bytes, for which no tick is due, and those after it that are swept.
+fn apply(w: &[u8], out: &mut [u8], turn: &mut Turn, n: usize, e: Record)
+    requires { Open w.now out.old turn.old × Stands w.now turn.old.taken n e × (ticks_due turn.old.progress.reading e ≡ 0) }
+    ensures { ActedOn w.now out.old turn.old out.new turn.new }
+{
+    let p = &mut turn.progress;
+    match reader::record(p.reading, e) {
+        Ok(next) => {
+            p.reading = next;
+            p.place += n as u64;
+            turn.taken = sweep(w, turn.taken + n, p);
+        }
+        Err(refusal) => stop(out, turn, refusal),
     }
 }
 
-// The record e, for which no tick is due, and those after it that are swept.
-fn apply(
-    w: &[u8],
-    out: &mut [u8],
-    at: usize,
-    used: usize,
-    p: Progress,
-    n: usize,
-    e: Record,
-) -> Acted
-    requires { Open w.now out.old at used p × Stands w.now at n e × (ticks_due p.reading e ≡ 0) }
-    ensures { ActedAny w.now out.old at used p out.new result }
+// The ticks before the record e of n bytes and, where there is room left after them, the record.
+fn known(w: &[u8], out: &mut [u8], turn: &mut Turn, n: usize, e: Record)
+    requires { Open w.now out.old turn.old × Stands w.now turn.old.taken n e }
+    ensures { ActedOn w.now out.old turn.old out.new turn.new }
 {
-    let r = p.reading;
-    let place = p.place;
-    let x = reader::record(r, e);
-    let a = x.answer;
-    if let Answer::Refused(m) = a {
-        return stop(out, at, used, p, m);
+    let r = &mut turn.progress.reading;
+    let d = reader::due(*r, e);
+    turn.written = ticks(out, turn.written, &mut r.state, d);
+    if out.len() - turn.written >= LONGEST {
+        apply(w, out, turn, n, e);
     }
-    let next = at + n;
-    let z = x.reading;
-    let y = sweep(w, next, reached(z, place + n as u64));
-    let q = y.progress;
-    Acted {
-        goes: true,
-        at: y.at,
-        used: used,
-        progress: q,
-    }
-}
-
-// The ticks before the record e and, where there is room left after them, the record.
-fn known(
-    w: &[u8],
-    out: &mut [u8],
-    at: usize,
-    used: usize,
-    p: Progress,
-    n: usize,
-    e: Record,
-) -> Acted
-    requires { Open w.now out.old at used p × Stands w.now at n e }
-    ensures { ActedAny w.now out.old at used p out.new result }
-{
-    let r = p.reading;
-    let place = p.place;
-    let d = reader::due(r, e);
-    if d == 0 {
-        return apply(w, out, at, used, p, n, e);
-    }
-    let x = ticks(out, used, r.state, d);
-    let to = x.used;
-    let mut q = r;
-    let z = x.state;
-    q.state = z;
-    let y = reached(q, place);
-    if out.len() - to < LONGEST {
-        return Acted {
-            goes: true,
-            at: at,
-            used: to,
-            progress: y,
-        };
-    }
-    apply(w, out, at, to, y, n, e)
 }
 
 // A whole record of this kind, of n bytes.
-fn whole(
-    w: &[u8],
-    out: &mut [u8],
-    at: usize,
-    used: usize,
-    p: Progress,
-    kind: u16,
-    n: usize,
-) -> Acted
-    requires { Open w.now out.old at used p × Framed w.now at kind n }
-    ensures { ActedAny w.now out.old at used p out.new result }
+fn whole(w: &[u8], out: &mut [u8], turn: &mut Turn, kind: u16, n: usize)
+    requires { Open w.now out.old turn.old × Framed w.now turn.old.taken kind n }
+    ensures { ActedOn w.now out.old turn.old out.new turn.new }
 {
-    let start = at + 4;
-    let end = at + n;
-    let d = trace::decode(kind, &w[start..end]);
-    match d {
-        Decoded::Known(e) => known(w, out, at, used, p, n, e),
-        Decoded::Refused(m) => stop(out, at, used, p, m),
+    match trace::decode(kind, &w[turn.taken + 4..turn.taken + n]) {
+        Ok(e) => known(w, out, turn, n, e),
+        Err(refusal) => stop(out, turn, refusal),
     }
 }
 
-// The next part of a call: ticks, a record and those that are swept after it, the last line, or
-// nothing.
-fn act(w: &[u8], last: bool, out: &mut [u8], at: usize, used: usize, p: Progress) -> Acted
-    requires { GivenReading p.reading × (at ≤ length w.now) × (used ≤ length out.old) }
-    ensures { ActedTo last w.now out.old at used p out.new result }
+// The next part of a call: ticks, a record and those that are swept after it, or the last line; or
+// nothing, and then the call is over.
+fn act(w: &[u8], last: bool, out: &mut [u8], turn: &mut Turn) -> bool
+    requires { GivenReading turn.old.progress.reading × (turn.old.taken ≤ length w.now) × (turn.old.written ≤ length out.old) }
+    ensures { ActedTo last w.now out.old turn.old out.new turn.new result }
 {
-    if p.done {
-        return stay(at, used, p);
+    if turn.progress.done || out.len() - turn.written < LONGEST || turn.progress.place > FARTHEST {
+        return false;
     }
-    if out.len() - used < LONGEST {
-        return stay(at, used, p);
+    let left = w.len() - turn.taken;
+    match trace::frame(&w[turn.taken..]) {
+        Frame::Ended if last => finish(out, turn),
+        Frame::Cut if last || left >= WIDEST => stop(out, turn, Refusal::CutShort),
+        Frame::Ended | Frame::Cut => return false,
+        Frame::Whole(kind, n) => whole(w, out, turn, kind, n),
     }
-    if p.place > FARTHEST {
-        return stay(at, used, p);
-    }
-    let f = trace::frame(&w[at..]);
-    match f {
-        Frame::Ended => {
-            if last {
-                return finish(out, at, used, p);
-            }
-            stay(at, used, p)
-        }
-        Frame::Cut => {
-            if last {
-                return stop(out, at, used, p, 14);
-            }
-            if w.len() - at >= WIDEST {
-                return stop(out, at, used, p, 14);
-            }
-            stay(at, used, p)
-        }
-        Frame::Whole(kind, n) => whole(w, out, at, used, p, kind, n),
-    }
+    true
 }
 
 // A call: as much as the window and the output allow.
@@ -216,20 +125,11 @@ pub fn advance(w: &[u8], last: bool, p: Progress, out: &mut [u8]) -> Turn
     ensures out_after { out.new ≡ sets out.old 0 (window.advance last (length out.old) p w.now).text }
     ensures taken_in_bounds { (result.taken ≤ length w.now) × (result.written ≤ length out.old) }
 {
-    let mut q = p;
-    let mut at: usize = 0;
-    let mut used: usize = 0;
-    let mut going = true;
-    while going {
-        let x = act(w, last, out, at, used, q);
-        going = x.goes;
-        at = x.at;
-        used = x.used;
-        q = x.progress;
-    }
-    Turn {
-        taken: at,
-        written: used,
-        progress: q,
-    }
+    let mut turn = Turn {
+        taken: 0,
+        written: 0,
+        progress: p,
+    };
+    while act(w, last, out, &mut turn) {}
+    turn
 }

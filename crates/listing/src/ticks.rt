@@ -8,35 +8,25 @@ use quantities::{State, Table};
 use schedule::step::next;
 use text::LONGEST;
 
-// Where ticks were listed up to.
-#[derive(Clone, Copy)]
-pub struct Ticked {
-    pub used: usize,
-    pub state: State,
-}
-
-// Lists ticks, n at most, while there is room.
-pub fn ticks(out: &mut [u8], from: usize, s: State, n: u32) -> Ticked
-    requires { Given s × (s.clock.0 + n ≤ clock_end) × (from ≤ length out.old) }
-    ensures { ListedTo out.old from s n out.new result.used result.state }
+// Lists ticks, n at most, while there is room, and leads the schedule through them.
+pub fn ticks(out: &mut [u8], from: usize, s: &mut State, n: u32) -> usize
+    requires { Given s.old × (s.old.clock.0 + n ≤ clock_end) × (from ≤ length out.old) }
+    ensures { ListedTo out.old from s.old n out.new result s.new }
 {
-    let mut z = s;
     let mut used = from;
-    let mut i: u32 = 0;
-    while i < n && out.len() - used >= LONGEST {
-        z = next(z);
-        let tick = z.clock.0 - 1;
-        let b = z.had;
-        if b == Table::NOBODY {
-            used = text::idle(out, used, tick);
-        } else {
-            let t = z.threads[b];
-            used = text::granted(out, used, tick, b as u16, t.app, t.e, t.w);
+    for _ in 0..n {
+        if out.len() - used < LONGEST {
+            break;
         }
-        i += 1;
+        next(s);
+        let tick = s.clock.0 - 1;
+        used = match s.had {
+            Table::NOBODY => text::idle(out, used, tick),
+            b => {
+                let t = &s.threads[b];
+                text::granted(out, used, tick, b as u16, t.app, t.e, t.w)
+            }
+        };
     }
-    Ticked {
-        used: used,
-        state: z,
-    }
+    used
 }

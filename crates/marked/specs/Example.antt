@@ -4,7 +4,7 @@ use Prim.Native.String.{String}
 use Rattle.lists.specs.Sum.{sum_by}
 use Rattle.lists.specs.MapTo.{map_to}
 use Rattle.rules.specs.Limits.{usual_period}
-use Rattle.rules.specs.Threads.{Order, Phase, Thread, State, at, free_share, earliest, lose_at}
+use Rattle.rules.specs.Threads.{Ordering, Phase, Thread, State, at, free_share, earliest, lose_at}
 use Rattle.rules.specs.Table.{Row, Table, Answer, number_of, head_answer, row_answer, shares_to, rows_answer, table_answer, opened_to, start, opening}
 use Rattle.rules.specs.Completion.{gives, completing, after_completion, completion}
 use Rattle.rules.specs.Leaving.{leave, gone}
@@ -34,7 +34,7 @@ pub data Seen : Type 0 where
   facts : (clock had : ℕ) (completed closed : Bool) → Seen
   answer : Answer → Seen
   outcome : Outcome → Seen
-  order : Order → Seen
+  order : Ordering → Seen
   entries : List ℕ → Seen
   whole : State → Seen
   framed : Frame → Seen

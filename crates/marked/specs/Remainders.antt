@@ -1,7 +1,7 @@
 -- Document 02, Item 3, in examples: deadlines in one whole tick, which only the remainders tell apart, each times the other's share.
 use Rattle.std.specs.Prelude.{refl, List, [], ◌∷◌, ℕ, pos}
 use Rattle.lists.specs.All.{All, none, more}
-use Rattle.rules.specs.Threads.{Thread, State, Contending, NonContending, Earlier, Equal, Later, amt, compare}
+use Rattle.rules.specs.Threads.{Thread, State, Contending, NonContending, Less, Equal, Greater, amt, compare}
 use Rattle.rules.specs.Charge.{beneficiary}
 use Rattle.rules.specs.Step.{Grant, ready, stepped}
 use Rattle.rules.specs.Calls.{complete, arrive, step, after}
@@ -15,7 +15,7 @@ due u n = record { app = 0; phase = Contending; share = u; period = 10; jobs = 1
 abbrev equal_whole_parts : Example
 equal_whole_parts = example "equal-whole-parts"
     (order (compare (due 2 25) (due 5 61)) ∷ order (compare (due 5 61) (due 2 25)) ∷ [])
-    (order Later ∷ order Earlier ∷ [])
+    (order Greater ∷ order Less ∷ [])
 
 -- 24/2 and 60/5, and with remainders 124/12 and 62/6
 abbrev unlike_shares_tie : Example
@@ -27,7 +27,7 @@ unlike_shares_tie = example "unlike-shares-tie"
 abbrev unlike_whole_parts : Example
 unlike_whole_parts = example "unlike-whole-parts"
     (order (compare (due 2 25) (due 5 65)) ∷ order (compare (due 5 65) (due 2 25)) ∷ [])
-    (order Earlier ∷ order Later ∷ [])
+    (order Less ∷ order Greater ∷ [])
 
 -- Step 5: 63/4 and 93/6 are 15 3/4 and 15 1/2; whole parts alone would be a tie, which thread 0 has.
 abbrev to_tick_5 : State

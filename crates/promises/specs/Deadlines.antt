@@ -10,7 +10,7 @@ use Rattle.std.proofs.Math.Dec.{T}
 use Rattle.std.specs.Int.Signed.{lt_z}
 use Rattle.integers.specs.Parts.{up, dn, mul_up, mul_dn, lt_z-true, lt_z-false}
 use Rattle.rules.specs.Limits.{nobody}
-use Rattle.rules.specs.Threads.{Thread, Earlier, Equal, Later, at, is_earlier, sooner, closer, earliest}
+use Rattle.rules.specs.Threads.{Thread, Less, Equal, Greater, at, is_earlier, sooner, closer, earliest}
 use Rattle.promises.specs.Cases.{test, by_test}
 
 -- the deadline of x is not after that of y
@@ -21,7 +21,7 @@ NotAfter x y = up x.e.0 * y.share + dn y.e.0 * x.share ≤ up y.e.0 * x.share + 
 sooner_is : (x y : Thread) → sooner x y ≡ lt_z (x.e.0 *ℤ pos y.share) (y.e.0 *ℤ pos x.share)
 sooner_is x y = go (lt_z (x.e.0 *ℤ pos y.share) (y.e.0 *ℤ pos x.share)) (lt_z (y.e.0 *ℤ pos x.share) (x.e.0 *ℤ pos y.share))
   where
-    go : (a b : Bool) → is_earlier (cond a Earlier (cond b Later Equal)) ≡ a
+    go : (a b : Bool) → is_earlier (cond a Less (cond b Greater Equal)) ≡ a
     go true b = refl
     go false true = refl
     go false false = refl

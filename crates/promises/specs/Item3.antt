@@ -4,11 +4,12 @@ use Rattle.std.specs.Int.Signed.{lt_z}
 use Rattle.integers.specs.Parts.{up}
 use Rattle.integers.specs.Fractions.{joined, before}
 use Rattle.rules.specs.Limits.{max_q}
-use Rattle.rules.specs.Threads.{Thread, State, Order, Earlier, Equal, Later, at, contends, compare}
+use Rattle.rules.specs.Threads.{Thread, State, Ordering, Less, Equal, Greater, at, contends, compare}
 use Rattle.rules.specs.Fitting.{fit}
 use Rattle.rules.specs.Step.{ready}
 use Rattle.rules.specs.Calls.{Given}
 pub use Rattle.quantities.specs.declared.Deadline.{Deadline}
+pub use Rattle.quantities.specs.declared.Earliest.{Earliest}
 
 -- ---- a deadline in two parts
 -- whole ticks, and a remainder in parts of the share
@@ -20,17 +21,17 @@ abbrev pub full_of : Deadline → ℕ
 full_of d = joined d.whole d.remainder d.share
 
 -- document 01: "Deadlines of two threads are compared as fractions, E1 × u2 against E2 × u1."
-abbrev pub compare_parts : Deadline → Deadline → Order
+abbrev pub compare_parts : Deadline → Deadline → Ordering
 compare_parts d o =
-    cond (ltb (full_of d * o.share) (full_of o * d.share)) Earlier
-    (cond (ltb (full_of o * d.share) (full_of d * o.share)) Later Equal)
+    cond (ltb (full_of d * o.share) (full_of o * d.share)) Less
+    (cond (ltb (full_of o * d.share) (full_of d * o.share)) Greater Equal)
 
 -- "Compare the whole parts first and multiply only the remainders when those are equal."
 abbrev pub sooner_by_parts : Deadline → Deadline → Bool
 sooner_by_parts d o = before d.whole d.remainder d.share o.whole o.remainder o.share
 
-abbrev pub by_parts : Deadline → Deadline → Order
-by_parts d o = cond (sooner_by_parts d o) Earlier (cond (sooner_by_parts o d) Later Equal)
+abbrev pub by_parts : Deadline → Deadline → Ordering
+by_parts d o = cond (sooner_by_parts d o) Less (cond (sooner_by_parts o d) Greater Equal)
 
 -- document 01, step 4: "Each contending thread with E − W < Q − r"
 abbrev pub is_unfit : ℕ → Thread → Bool

@@ -40,3 +40,4 @@ pub mod Parting
 pub mod Tables
 pub mod Taken
 pub mod Idle
+pub mod Numbers

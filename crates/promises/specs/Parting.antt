@@ -5,7 +5,7 @@ use Rattle.std.proofs.Common.{sym, ap, ◌∙◌, arith, lt-ltb, le-ltb, eq-eqb}
 use Rattle.std.proofs.lemmas.Bool.{false≢true}
 use Rattle.std.specs.Int.Signed.{lt_z}
 use Rattle.integers.specs.Parts.{up, dn}
-use Rattle.rules.specs.Threads.{Thread, State, Earlier, Equal, Contending, amt, at, contends, compare, is_earlier}
+use Rattle.rules.specs.Threads.{Thread, State, Less, Equal, Contending, amt, at, contends, compare, is_earlier}
 use Rattle.rules.specs.Fitting.{fit}
 use Rattle.rules.specs.Step.{ready}
 use Rattle.rules.specs.Calls.{Given}
@@ -72,11 +72,11 @@ module _ (s : State) (p : OfThreads s) (i j : ℕ) (h : i < s.count) (k : j < s.
   two_parts = let n = (p i j h k).not_negative in (ap up n, ap dn n)
 
   -- fewer whole ticks
-  pub earlier_by_whole_part : d.whole < o.whole → compare x y ≡ Earlier
+  pub earlier_by_whole_part : d.whole < o.whole → compare x y ≡ Less
   earlier_by_whole_part l = rw ((p i j h k).told, lt-ltb d.whole o.whole l)
 
   -- as many, and a lesser remainder
-  pub earlier_by_remainder : d.whole ≡ o.whole → d.remainder * y.share < o.remainder * x.share → compare x y ≡ Earlier
+  pub earlier_by_remainder : d.whole ≡ o.whole → d.remainder * y.share < o.remainder * x.share → compare x y ≡ Less
   earlier_by_remainder e l =
       rw (
         (p i j h k).told,

@@ -5,7 +5,7 @@ use Rattle.std.specs.Int.Signed.{lt_z}
 use Rattle.integers.specs.Parts.{up, as_nat}
 use Rattle.integers.specs.Fractions.{order, apart, remainder_small, more_whole, more_remainder}
 use Rattle.rules.specs.Limits.{max_q, usual_period}
-use Rattle.rules.specs.Threads.{Thread, State, Earlier, Equal, Later, at, contends, compare, is_earlier, sooner}
+use Rattle.rules.specs.Threads.{Thread, State, Less, Equal, Greater, at, contends, compare, is_earlier, sooner}
 use Rattle.rules.specs.Table.{opening}
 use Rattle.rules.specs.Fitting.{postpone, fit}
 use Rattle.rules.specs.Calls.{Given, arrive, after}
@@ -38,10 +38,10 @@ parts_order {d} {o} p q =
 
 -- .. of which there are three cases
 module _ {d o : Deadline} (p : Parted d) (q : Parted o) where
-  pub fewer_ticks : d.whole < o.whole → compare_parts d o ≡ Earlier
+  pub fewer_ticks : d.whole < o.whole → compare_parts d o ≡ Less
   fewer_ticks h = rw (parts_order p q, lt-ltb d.whole o.whole h)
 
-  pub more_ticks : o.whole < d.whole → compare_parts d o ≡ Later
+  pub more_ticks : o.whole < d.whole → compare_parts d o ≡ Greater
   more_ticks h =
       rw (
         parts_order p q,
@@ -56,7 +56,7 @@ module _ {d o : Deadline} (p : Parted d) (q : Parted o) where
   abbrev y : ℕ
   y = o.remainder * d.share
 
-  pub same_ticks : d.whole ≡ o.whole → compare_parts d o ≡ cond (ltb x y) Earlier (cond (ltb y x) Later Equal)
+  pub same_ticks : d.whole ≡ o.whole → compare_parts d o ≡ cond (ltb x y) Less (cond (ltb y x) Greater Equal)
   same_ticks e =
       rw (
         parts_order p q,

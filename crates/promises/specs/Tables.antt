@@ -1,10 +1,11 @@
 -- One pass over the threads: every thread changed in turn, or a number collected for each application.
-use Rattle.std.specs.Prelude.{◌≡◌, refl, Bool, true, ◌&&◌, List, ℕ, zero, suc, ◌+◌, ◌≤◌, ◌<◌, pos, length, get_or, set}
+use Rattle.std.specs.Prelude.{◌≡◌, refl, Bool, true, ◌&&◌, List, Option, None, Some, IfSome, ℕ, zero, suc, ◌+◌, ◌≤◌, ◌<◌, pos, length, get_or, set}
 use Rattle.std.proofs.Math.Path.{sym, ap}
 use Rattle.std.proofs.Common.{◌∙◌, subst, le_refl, add-one, arith, length-set, get_or-set_same, get_or-set_other}
 use Rattle.std.proofs.Math.Bool.{false, cond}
 use Rattle.std.proofs.Math.Decide.{ℕ_discrete}
-use borrow.Author.Tests.{ne_eqb, eq-eqb, eqb-false}
+use borrow.Author.Tests.{ne_eqb, eq-eqb, eqb-true, eqb-false}
+use Rattle.std.proofs.lemmas.Option.{none-some}
 use Rattle.std.proofs.Math.Dec.{eqb}
 use Rattle.lists.specs.MapTo.{map_to, map_none, map_at, map_has, map_stays, map_more}
 use Rattle.lists.specs.Sum.{sum_none, sum_more}
@@ -15,7 +16,7 @@ use Rattle.rules.specs.Charge.{beneficiary, benefits}
 use Rattle.promises.specs.Cases.{and_false}
 use Rattle.promises.specs.Deadlines.{earliest_in}
 use Rattle.promises.specs.Sound.{Sound, RowOk}
-use Rattle.promises.specs.Item3.{Deadline, deadline_of, compare_parts}
+use Rattle.promises.specs.Item3.{Deadline, Earliest, deadline_of, compare_parts}
 use Rattle.promises.specs.Remainders.{Parted, parted_is, parts_sooner}
 
 -- ---- every thread changed by f in turn; z is s with the first i of them changed
@@ -85,53 +86,83 @@ free_none {s} g a h zero k = sum_none (free_share a) s.threads
 free_none {s} g a h (suc n) k = ap (λ m. free a m s.threads) (sym (add-one n)) ∙ free_other s.threads n (omega (arith, g.few, g.long)) a (λ e. let o = (g.ok n k).app_max in omega arith) ∙ free_none g a h n (omega arith)
 
 -- ---- the earliest so far
--- b is nobody, or its deadline o is later than d
-abbrev pub leads_of : Deadline → Deadline → ℕ → Bool
-leads_of d o b = cond (eqb b nobody) true (is_earlier (compare_parts d o))
+-- the thread b and its deadline
+abbrev pub leading : List Thread → ℕ → Earliest
+leading xs b = record { thread = b; deadline = deadline_of (at xs b) }
 
--- b is the earliest of the first i threads, and o its deadline
-pub record Lead (p : Thread → Bool) (xs : List Thread) (i b : ℕ) (o : Deadline) : Type 0 where
-  pub first : b ≡ earliest p i xs
-  pub due : (b ≡ nobody → ⊥) → o ≡ deadline_of (at xs b)
+-- .. unless b is nobody's number
+abbrev pub led : List Thread → ℕ → Option Earliest
+led xs b = cond (eqb b nobody) None (Some (leading xs b))
 
-module _ (p : Thread → Bool) (xs : List Thread) (i b : ℕ) (o : Deadline) where
-  pub lead_none : Lead p xs 0 nobody o
+-- d is earlier than the earliest so far
+abbrev pub leads_of : Deadline → Option Earliest → Bool
+leads_of d None = true
+leads_of d (Some o) = is_earlier (compare_parts d o.deadline)
+
+-- the earlier of the earliest so far and x, which comes after it
+abbrev pub closer_of : Option Earliest → Earliest → Option Earliest
+closer_of o x = cond (leads_of x.deadline o) (Some x) o
+
+pub led_nobody : (xs : List Thread) (b : ℕ) → None ≡ led xs b → b ≡ nobody
+led_nobody xs b = go (eqb b nobody) refl
+  where
+    go : (n : Bool) → eqb b nobody ≡ n → None ≡ cond n None (Some (leading xs b)) → b ≡ nobody
+    go true q e = eqb-true b nobody q
+    go false q e = absurd (none-some _ e)
+
+pub led_thread : (xs : List Thread) (b : ℕ) {o : Earliest} → Some o ≡ led xs b → (o.thread ≡ b) × (b ≡ nobody → ⊥)
+led_thread xs b {o} = go (eqb b nobody) refl
+  where
+    go : (n : Bool) → eqb b nobody ≡ n → Some o ≡ cond n None (Some (leading xs b)) → (o.thread ≡ b) × (b ≡ nobody → ⊥)
+    go true q e = absurd (none-some _ (sym e))
+    go false q e = (ap (λ (x : Option Earliest). elim x [ None ↦ nobody | Some y ↦ y.thread ]) e, eqb-false b nobody q)
+
+-- o is the earliest of the first i threads that pass the test p
+abbrev pub Lead : (Thread → Bool) → List Thread → ℕ → Option Earliest → Type 0
+Lead p xs i o = o ≡ led xs (earliest p i xs)
+
+module _ (p : Thread → Bool) (xs : List Thread) (i : ℕ) where
+  pub lead_none : Lead p xs 0 None
   unfolding earliest
-  lead_none = record { first = refl; due = λ f. absurd (f refl) }
+  lead_none = refl
 
-  next_is : (m : ℕ) → b ≡ earliest p i xs → closer p xs b i ≡ m → m ≡ earliest p (i + 1) xs
+  next_is : earliest p (i + 1) xs ≡ closer p xs (earliest p i xs) i
   unfolding earliest
-  next_is m e c = sym c ∙ ap (λ k. closer p xs k i) e ∙ sym (ap (λ k. earliest p k xs) (add-one i))
+  next_is = ap (λ k. earliest p k xs) (add-one i)
 
-  -- one that does not pass
-  pub lead_past : Lead p xs i b o → p (at xs i) ≡ false → Lead p xs (i + 1) b o
-  lead_past l e = record { first = next_is b l.first (rw e); due = l.due }
+  module _ {o : Option Earliest} (l : Lead p xs i o) where
+    -- one that does not pass
+    pub lead_past : p (at xs i) ≡ false → Lead p xs (i + 1) o
+    lead_past e = l ∙ ap (led xs) (sym (next_is ∙ rw e refl))
 
-  module _ (ok : (k : ℕ) → k < i + 1 → RowOk (at xs k)) (l : Lead p xs i b o) where
-    inside : (b ≡ nobody → ⊥) → b < i + 1
-    inside f = omega (arith, l.first, (earliest_in p i xs (λ z. f (l.first ∙ z))).0)
-
-    pub lead_parted : (b ≡ nobody → ⊥) → Parted o
-    lead_parted f = parted_is (ok b (inside f)) (l.due f)
-
-    module _ (d : Deadline) (h : d ≡ deadline_of (at xs i)) (e : p (at xs i) ≡ true) where
-      told : (b ≡ nobody → ⊥) → is_earlier (compare_parts d o) ≡ sooner (at xs i) (at xs b)
-      told f = parts_sooner (ok i (omega arith)) (ok b (inside f)) h (l.due f)
-
-      closer_is : (t : Bool) → leads_of d o b ≡ t → closer p xs b i ≡ cond t i b
-      closer_is t c = rw e (go (eqb b nobody) refl c)
+    module _ (few : i < 64) (ok : (k : ℕ) → k < i + 1 → RowOk (at xs k)) where
+      pub lead_parted : IfSome o (λ x. Parted x.deadline)
+      lead_parted = rw l (go (eqb (earliest p i xs) nobody) refl)
         where
-          go : (n : Bool) → eqb b nobody ≡ n → cond n true (is_earlier (compare_parts d o)) ≡ t
-              → cond n i (cond (sooner (at xs i) (at xs b)) i b) ≡ cond t i b
-          go true q c = ap (λ t. cond t i b) c
-          go false q c = ap (λ t. cond t i b) (sym (told (eqb-false b nobody q)) ∙ c)
+          go : (n : Bool) → eqb (earliest p i xs) nobody ≡ n
+              → IfSome (cond n None (Some (leading xs (earliest p i xs)))) (λ (x : Earliest). Parted x.deadline)
+          go true q = tt
+          go false q = parted_is (ok _ (omega (arith, (earliest_in p i xs (eqb-false _ nobody q)).0))) refl
 
       -- one that passes leads or does not
-      pub lead_taken : leads_of d o b ≡ true → Lead p xs (i + 1) i d
-      lead_taken c = record { first = next_is i l.first (closer_is true c); due = λ _. h }
+      turn_is : p (at xs i) ≡ true → earliest p (i + 1) xs ≡ cond (leads_of (deadline_of (at xs i)) o) i (earliest p i xs)
+      turn_is e = next_is ∙ rw e (go (eqb b nobody) refl) ∙ sym (ap (λ o. cond (leads_of (deadline_of (at xs i)) o) i b) l)
+        where
+          b : ℕ
+          b = earliest p i xs
 
-      pub lead_kept : leads_of d o b ≡ false → Lead p xs (i + 1) b o
-      lead_kept c = record { first = next_is b l.first (closer_is false c); due = l.due }
+          go : (n : Bool) → eqb b nobody ≡ n
+              → cond n i (cond (sooner (at xs i) (at xs b)) i b) ≡ cond (leads_of (deadline_of (at xs i)) (cond n None (Some (leading xs b)))) i b
+          go true q = refl
+          go false q = ap (λ t. cond t i b) (sym (parts_sooner (ok i (omega arith)) (ok b (omega (arith, (earliest_in p i xs (eqb-false b nobody q)).0))) refl refl))
+
+      -- .. and the earlier of the two is the earliest so far
+      pub lead_next : p (at xs i) ≡ true → Lead p xs (i + 1) (closer_of o (leading xs i))
+      lead_next e = go (leads_of (deadline_of (at xs i)) o) refl
+        where
+          go : (t : Bool) → leads_of (deadline_of (at xs i)) o ≡ t → cond t (Some (leading xs i)) o ≡ led xs (earliest p (i + 1) xs)
+          go true q = sym (ap (led xs) (turn_is e ∙ ap (λ t. cond t i (earliest p i xs)) q) ∙ ap (λ n. cond n None (Some (leading xs i))) (ne_eqb i nobody (λ z. omega arith)))
+          go false q = l ∙ sym (ap (led xs) (turn_is e ∙ ap (λ t. cond t i (earliest p i xs)) q))
 
 -- ---- one turn of each table; x is the thread whose turn it is, app its application
 module _ (xs : List Thread) (i : ℕ) (f : List ℕ) (long : length f ≡ 16) (x : Thread) (e : x ≡ at xs i) (app : ℕ) (own : app ≡ x.app) (k : app < 16) where
@@ -152,52 +183,30 @@ module _ (xs : List Thread) (i : ℕ) (f : List ℕ) (long : length f ≡ 16) (x
   pub free_more : i < length xs → Table16 (λ a. free a i xs) f → Table16 (λ a. free a (i + 1) xs) (set f app (get_or f app 0 + cond (is_inactive x.phase) x.share 0))
   free_more l inv = table_more (λ a. free a i xs) (λ a. free a (i + 1) xs) f app _ long k inv (free_own l inv) (λ a n. free_other xs i l a (other n))
 
--- ---- the earliest of each application; best has who they are, due their deadlines
-abbrev pub undue : Deadline
-undue = record { whole = 0; remainder = 0; share = 0 }
+-- ---- the earliest of each application
+pub record Leads (xs : List Thread) (i : ℕ) (best : List (Option Earliest)) : Type 0 where
+  pub long : length best ≡ 16
+  pub each : (a : ℕ) → a < 16 → Lead (active_in a) xs i (get_or best a None)
 
-pub record Leads (xs : List Thread) (i : ℕ) (best : List ℕ) (due : List Deadline) : Type 0 where
-  pub best_long : length best ≡ 16
-  pub due_long : length due ≡ 16
-  pub each : (a : ℕ) → a < 16 → Lead (active_in a) xs i (get_or best a 0) (get_or due a undue)
+module _ (xs : List Thread) (i : ℕ) (best : List (Option Earliest)) (l : Leads xs i best) where
+  pub leads_past : active (at xs i) ≡ false → Leads xs (i + 1) best
+  leads_past e = record { long = l.long; each = λ a h. lead_past (active_in a) xs i (l.each a h) (rw e refl) }
 
-module _ (xs : List Thread) (i : ℕ) (best : List ℕ) (due : List Deadline) (l : Leads xs i best due) where
-  pub leads_past : active (at xs i) ≡ false → Leads xs (i + 1) best due
-  leads_past e = record {
-    best_long = l.best_long;
-    due_long = l.due_long;
-    each = λ a h. lead_past (active_in a) xs i (get_or best a 0) (get_or due a undue) (l.each a h) (rw e);
-  }
-
-  module _ (ok : (k : ℕ) → k < i + 1 → RowOk (at xs k)) (app : ℕ) (k : app < 16) (own : app ≡ (at xs i).app)
-      (e : active (at xs i) ≡ true) (d : Deadline) (h : d ≡ deadline_of (at xs i)) where
-    passes : active_in app (at xs i) ≡ true
-    passes = rw (e, eq-eqb (at xs i).app app (sym own))
-
+  module _ (few : i < 64) (ok : (k : ℕ) → k < i + 1 → RowOk (at xs k)) (app : ℕ) (k : app < 16) (own : app ≡ (at xs i).app) (e : active (at xs i) ≡ true) where
     elsewhere : (a : ℕ) → (a ≡ app → ⊥) → active_in a (at xs i) ≡ false
     elsewhere a n = and_other xs i a (λ q. n (q ∙ sym own)) (active (at xs i))
 
-    pub leads_kept : leads_of d (get_or due app undue) (get_or best app 0) ≡ false → Leads xs (i + 1) best due
-    leads_kept c = record { best_long = l.best_long; due_long = l.due_long; each = λ a m. go a m (ℕ_discrete a app) }
+    pub leads_next : Leads xs (i + 1) (set best app (closer_of (get_or best app None) (leading xs i)))
+    leads_next = record { long = length-set best app x ∙ l.long; each = λ a m. go a m (ℕ_discrete a app) }
       where
-        go : (a : ℕ) → a < 16 → Dec (a ≡ app) → Lead (active_in a) xs (i + 1) (get_or best a 0) (get_or due a undue)
-        go a m (yes q) = subst (λ a. Lead (active_in a) xs (i + 1) (get_or best a 0) (get_or due a undue)) (sym q)
-            (lead_kept (active_in app) xs i _ _ ok (l.each app k) d h passes c)
-        go a m (no n) = lead_past (active_in a) xs i _ _ (l.each a m) (elsewhere a n)
+        x : Option Earliest
+        x = closer_of (get_or best app None) (leading xs i)
 
-    pub leads_taken : leads_of d (get_or due app undue) (get_or best app 0) ≡ true → Leads xs (i + 1) (set best app i) (set due app d)
-    leads_taken c = record {
-      best_long = length-set best app i ∙ l.best_long;
-      due_long = length-set due app d ∙ l.due_long;
-      each = λ a m. go a m (ℕ_discrete a app);
-    }
-      where
-        go : (a : ℕ) → a < 16 → Dec (a ≡ app) → Lead (active_in a) xs (i + 1) (get_or (set best app i) a 0) (get_or (set due app d) a undue)
-        go a m (yes q) = subst (λ a. Lead (active_in a) xs (i + 1) (get_or (set best app i) a 0) (get_or (set due app d) a undue)) (sym q)
-            (rw (get_or-set_same best app i 0 (omega (arith, l.best_long)), get_or-set_same due app d undue (omega (arith, l.due_long)))
-            (lead_taken (active_in app) xs i _ _ ok (l.each app k) d h passes c))
-        go a m (no n) = rw (get_or-set_other best app a i 0 n, get_or-set_other due app a d undue n)
-            (lead_past (active_in a) xs i _ _ (l.each a m) (elsewhere a n))
+        go : (a : ℕ) → a < 16 → Dec (a ≡ app) → Lead (active_in a) xs (i + 1) (get_or (set best app x) a None)
+        go a m (yes q) = subst (λ a. Lead (active_in a) xs (i + 1) (get_or (set best app x) a None)) (sym q)
+            (rw (get_or-set_same best app x None (omega (arith, l.long)))
+            (lead_next (active_in app) xs i (l.each app k) few ok (rw (e, eq-eqb (at xs i).app app (sym own)) refl)))
+        go a m (no n) = rw (get_or-set_other best app a x None n) (lead_past (active_in a) xs i (l.each a m) (elsewhere a n))
 
 -- ---- one turn of the handing out
 module _ (own a : ℕ) (s : State) (xs : List Thread) where

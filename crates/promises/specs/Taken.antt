@@ -1,5 +1,5 @@
 -- What the step knows once it has chosen, and what a run knows at each of its ticks.
-use Rattle.std.specs.Prelude.{◌≡◌, refl, Bool, true, false, cond, List, ℕ, zero, suc, ◌+◌, ◌≤◌, ◌<◌, eqb, length}
+use Rattle.std.specs.Prelude.{◌≡◌, refl, Bool, true, false, cond, List, Option, None, ℕ, zero, suc, ◌+◌, ◌≤◌, ◌<◌, eqb, length, get_or}
 use Rattle.std.proofs.Math.Path.{sym, ap}
 use Rattle.std.proofs.Common.{◌∙◌, subst, arith, eq-eqb, ne_eqb, length-append}
 use Rattle.lists.specs.MapTo.{map_to}
@@ -15,7 +15,8 @@ use Rattle.promises.specs.Branches.{by_step}
 use Rattle.promises.specs.Good.{Good}
 use Rattle.promises.specs.Ready.{Steady, Ready, gone_beside, ready_beside, gone_good, fitted_steady, ready_ready, fitted_free, before_end, chosen_leads}
 use Rattle.promises.specs.Sound.{Sound, sound}
-use Rattle.promises.specs.Tables.{Changed, leaves, gone_is, Table16}
+use Rattle.promises.specs.Item3.{Earliest}
+use Rattle.promises.specs.Tables.{Changed, leaves, gone_is, Table16, led, Lead, Leads}
 
 -- the answer and the entry of a tick, by who had it
 abbrev pub outcome_to : ℕ → Outcome
@@ -72,7 +73,7 @@ module _ {s z : State} {f : List ℕ} (g : Good s) (i : ℕ) (all : i ≡ s.coun
       is_gone = e ∙ ap (λ k. with_rows s (map_to k (leaves s) s.threads)) all ∙ sym (gone_is s)
 
 module _ {s l : State} {f : List ℕ} (c : Left s l f) where
-  l_steady : Steady l
+  pub l_steady : Steady l
   l_steady = rw c.left (gone_good c.good).0
 
   pub l_sound : Sound l
@@ -96,20 +97,30 @@ pub record Chose (s l z : State) (b : ℕ) : Type 0 where
   pub fit : z ≡ fitted l
   pub best : b ≡ chosen z
 
-module _ {s l z : State} {f : List ℕ} (c : Left s l f) (i : ℕ) (all : i ≡ l.count) (e : Changed (fit_in l) l i z) where
-  is_fitted : z ≡ fitted l
+-- best has the beneficiary of each application in the state z, and its deadline
+abbrev pub Best : State → List (Option Earliest) → Type 0
+Best z best = (a : ℕ) → a < 16 → get_or best a None ≡ led z.threads (beneficiary a z)
+
+module _ (l : State) {z : State} (i : ℕ) (all : i ≡ l.count) (e : Changed (fit_in l) l i z) where
+  pub is_fitted : z ≡ fitted l
   unfolding fitted
   is_fitted = e ∙ ap (λ k. with_rows l (map_to k (fit_in l) l.threads)) all
 
-  same : (p : Thread → Bool) → earliest p i (fitted l).threads ≡ earliest p z.count z.threads
+  -- the earliest of all that fit
+  first_of_all : (p : Thread → Bool) (o : Option Earliest) → Lead p (fitted l).threads i o → o ≡ led z.threads (earliest p z.count z.threads)
   unfolding fitted
-  same p = ap (λ k. earliest p k (fitted l).threads) all ∙ sym (ap (λ (z : State). earliest p z.count z.threads) is_fitted)
+  first_of_all p o k = k
+      ∙ ap (λ k. led (fitted l).threads (earliest p k (fitted l).threads)) all
+      ∙ sym (ap (λ (z : State). led z.threads (earliest p z.count z.threads)) is_fitted)
 
-  pub fit_all : (s.clock.0 ≡ clock_end → ⊥) → (b : ℕ) → b ≡ earliest contends i (fitted l).threads → Chose s l z b
-  fit_all h b k = record { good = c.good; early = h; left = c.left; fit = is_fitted; best = k ∙ same contends }
+  pub chosen_of_all : (o : Option Earliest) → Lead contends (fitted l).threads i o → o ≡ led z.threads (chosen z)
+  chosen_of_all = first_of_all contends
 
-  pub best_all : (r : List ℕ) → Table16 (λ a. earliest (active_in a) i (fitted l).threads) r → Table16 (λ a. beneficiary a z) r
-  best_all r t a h = t a h ∙ same (active_in a)
+  pub best_of_all : (r : List (Option Earliest)) → Leads (fitted l).threads i r → Best z r
+  best_of_all r t a h = first_of_all (active_in a) (get_or r a None) (t.each a h)
+
+pub chose : {s l z : State} {f : List ℕ} → Left s l f → (s.clock.0 ≡ clock_end → ⊥) → z ≡ fitted l → (b : ℕ) → b ≡ chosen z → Chose s l z b
+chose c h e b k = record { good = c.good; early = h; left = c.left; fit = e; best = k }
 
 module _ {s l z : State} {b : ℕ} (c : Chose s l z b) where
   z_ready : Ready z

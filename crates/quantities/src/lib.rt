@@ -1,22 +1,53 @@
-// The types of the schedule, and the limits of its table. There is no function here.
+// The types of the schedule, and the limits of its table. What stands here computes on amounts alone.
 #![tactic(auto)]
+
+ghost use Rattle.std.specs.Prelude.{◌≡◌, pos, ◌+ℤ◌, ◌-ℤ◌};
+ghost use Rattle.std.specs.Int.{w64};
+ghost use Rattle.std.proofs.Common.{SFits};
+
+use std::ops::{Add, Sub};
 
 // A moment, or a length of time, in ticks.
 #[repr(C)]
-#[derive(Clone, Copy)]
+#[derive(Clone, Copy, PartialEq, Eq, PartialOrd, Ord, Default)]
 pub struct Moment(pub u32);
 
 // An amount in share-ticks. A moment becomes an amount only by multiplying with a share.
 #[repr(C)]
-#[derive(Clone, Copy)]
+#[derive(Clone, Copy, PartialEq, Eq, PartialOrd, Ord, Default)]
 pub struct Amount(pub i64);
 
-// How one deadline stands to another.
-#[derive(Clone, Copy)]
-pub enum Order {
-    Earlier,
-    Equal,
-    Later,
+impl Add for Amount {
+    type Output = Amount;
+
+    ghost can_add = { λ a b. SFits w64 (a.0 +ℤ b.0) };
+
+    ghost add_gives = { λ a b r. r ≡ record { 0 = a.0 +ℤ b.0 } };
+
+    fn add(self, rhs: Amount) -> Amount {
+        Amount(self.0 + rhs.0)
+    }
+}
+
+impl Sub for Amount {
+    type Output = Amount;
+
+    ghost can_sub = { λ a b. SFits w64 (a.0 -ℤ b.0) };
+
+    ghost sub_gives = { λ a b r. r ≡ record { 0 = a.0 -ℤ b.0 } };
+
+    fn sub(self, rhs: Amount) -> Amount {
+        Amount(self.0 - rhs.0)
+    }
+}
+
+// A number of parts, for one tick.
+impl From<u32> for Amount {
+    ghost from_gives = { λ n r. r ≡ record { 0 = pos n } };
+
+    fn from(n: u32) -> Amount {
+        Amount(n as i64)
+    }
 }
 
 // A deadline in two parts: whole ticks, and a remainder below the share, in parts of it. E is whole × share + remainder.
@@ -27,24 +58,23 @@ pub struct Deadline {
     pub share: u32,
 }
 
-impl Deadline {
-    // of no thread
-    pub const NONE: Deadline = Deadline {
-        whole: 0,
-        remainder: 0,
-        share: 0,
-    };
+// The thread with the earliest deadline among some, and that deadline.
+#[derive(Clone, Copy)]
+pub struct Earliest {
+    pub thread: usize,
+    pub deadline: Deadline,
 }
 
-#[derive(Clone, Copy)]
+#[derive(Clone, Copy, PartialEq, Eq, Default)]
 pub enum Phase {
+    #[default]
     Inactive,
     Contending,
     NonContending,
 }
 
 // A thread: its row of the table, and where it stands. W is u × virtual time, E is u × deadline.
-#[derive(Clone, Copy)]
+#[derive(Clone, Copy, Default)]
 pub struct Thread {
     pub app: u8,
     pub phase: Phase,
@@ -58,7 +88,7 @@ pub struct Thread {
 
 // A row of a table as it is written: period 0 stands for the usual one.
 #[repr(C)]
-#[derive(Clone, Copy)]
+#[derive(Clone, Copy, Default)]
 pub struct Row {
     pub app: u16,
     pub share: u16,
@@ -127,17 +157,26 @@ pub struct Stepped {
     pub state: State,
 }
 
-// What a table, an event or a run answers.
-#[derive(Clone, Copy)]
-pub enum Answer {
-    Done,
-    Refused(u8),
-}
-
-#[derive(Clone, Copy)]
-pub struct Answered {
-    pub answer: Answer,
-    pub state: State,
+// What is refused, by its number: `refusal as u8`.
+#[derive(Clone, Copy, PartialEq, Eq)]
+pub enum Refusal {
+    QOutsideItsRange = 1,
+    ThreadsOutsideTheirRange = 2,
+    NoSuchApplication = 3,
+    ShareOutsideItsRange = 4,
+    PeriodTooLong = 5,
+    LessThanATick = 6, // u × P is below Q
+    SharesAboveQ = 7,
+    NoSuchThread = 8,
+    NotItsTick = 9, // or a second completion at the moment
+    AfterAnArrival = 10,
+    TooManyJobs = 11,
+    BeforeTheClock = 12,
+    BeyondTheEnd = 13,
+    CutShort = 14, // or of a length that is not that of the kind
+    UnknownKind = 15,
+    NotInItsPlace = 16,
+    RowTooShort = 17,
 }
 
 // What stands at the start of the rest of an input: nothing; no whole record, since the input ends
@@ -161,12 +200,6 @@ pub enum Record {
     Drop(Moment, u16),
 }
 
-#[derive(Clone, Copy)]
-pub enum Decoded {
-    Known(Record),
-    Refused(u8),
-}
-
 // A trace while it is read: the table, how many of its rows have come, and the schedule, which
 // begins with the last of them. No head has come while the table has no thread.
 #[derive(Clone, Copy)]
@@ -176,17 +209,11 @@ pub struct Reading {
     pub state: State,
 }
 
-#[derive(Clone, Copy)]
-pub struct Read {
-    pub answer: Answer,
-    pub reading: Reading,
-}
-
 // What an input held whole gives: the answer, the byte at which the refused record starts or the
 // input ends, and the reading up to there.
 #[derive(Clone, Copy)]
 pub struct InputRead {
-    pub answer: Answer,
+    pub answer: Result<(), Refusal>,
     pub at: usize,
     pub reading: Reading,
 }
@@ -211,7 +238,7 @@ pub struct Turn {
 
 // A stretch of an application: since when it holds, the ticks granted to the application since, and
 // the capacity that it lost since.
-#[derive(Clone, Copy)]
+#[derive(Clone, Copy, Default)]
 pub struct Stretch {
     pub since: Moment,
     pub granted: u32,
@@ -220,7 +247,7 @@ pub struct Stretch {
 
 // Where an application stands: how many of its threads are active, and the stretch that holds while
 // some are.
-#[derive(Clone, Copy)]
+#[derive(Clone, Copy, Default)]
 pub struct Activity {
     pub active: u32,
     pub stretch: Stretch,

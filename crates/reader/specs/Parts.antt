@@ -1,37 +1,18 @@
--- Parts of reading a record, over the numbers that they look at in place of a whole state, and the cases of a record.
-use Rattle.std.specs.Prelude.{◌≡◌, refl, Bool, true, false, not, ◌&&◌, ℕ, ◌+◌, ◌-◌, ◌≤◌, ◌<◌, eqb, ltb}
-use Rattle.std.proofs.Common.{sym, ◌∙◌, subst, arith, ltb-false, le-ltb, eq-eqb, ne_eqb}
+-- Parts of reading a record, and the cases of a record.
+use Rattle.std.specs.Prelude.{◌≡◌, refl, Bool, true, false, List, ℕ, zero, suc, length, take, sum_by, ◌+◌, ◌-◌, ◌≤◌, ◌<◌, ltb}
+use Rattle.std.proofs.Common.{sym, ◌∙◌, add-one, subst, arith, ltb-false, le-ltb, eq-eqb, ne_eqb}
 use Rattle.std.proofs.Math.Path.{ap}
 use Rattle.std.proofs.Math.Bool.{cond}
 use Rattle.rules.specs.Limits.{clock_end, usual_period}
 use Rattle.rules.specs.Threads.{State}
-use Rattle.rules.specs.Table.{Table, Answer, Done, Refused, Answered, first, head_answer, row_answer, shares_to, start, no_schedule, opening}
+use Rattle.rules.specs.Table.{Table, Answer, Done, Refused, Answered, done, refused, first, head_answer, row_answer, shares_to, no_row, start, no_schedule, opening}
 use Rattle.rules.specs.Table as table
 use Rattle.rules.specs.Run.{state_after, passed}
 use Rattle.rules.specs.Records.{Moment, Record, Head, Row, Arrival, Completion, RunTo, Drop}
-use Rattle.rules.specs.Reading.{Reading, Read, fresh, at_head, at_rows, at_events, read_as, before_ticks, ticks_before, event_of, due_as, ticks_due, headed, with_row, rowed, with_state, event_read, record_read}
+use Rattle.rules.specs.Reading.{Reading, Read, fresh, at_head, at_rows, at_events, read_as, moment_answer, before_ticks, ticks_before, event_of, due_as, ticks_due, headed, with_row, rowed, with_state, event_read, record_read}
+use Rattle.std.proofs.lemmas.List.Sums.{sum_by_more}
 use Rattle.promises.specs.Begin.{both_done}
 use Rattle.windows.specs.Readings.{GoodReading, rows_come, rows_shut, opening_whole, last_admitted}
-
--- all of `threads` rows have come
-abbrev pub all_rows : ℕ → ℕ → Bool
-all_rows threads rows = not (eqb threads 0) && not (ltb rows threads)
-
--- 13, 12 at the clock `now`
-abbrev pub moment_at : ℕ → Moment → Answer
-moment_at now m = cond (ltb clock_end m.0) (Refused 13) (cond (ltb m.0 now) (Refused 12) Done)
-
--- 8 where there are `count` threads
-abbrev pub thread_at : ℕ → ℕ → Answer
-thread_at count i = cond (ltb i count) Done (Refused 8)
-
-abbrev pub before_at : ℕ → ℕ → Record → Answer
-before_at now count (Head q n) = Done
-before_at now count (Row x) = Done
-before_at now count (Arrival m i) = first (moment_at now m) (thread_at count i)
-before_at now count (Completion m i) = first (moment_at now m) (thread_at count i)
-before_at now count (RunTo m) = moment_at now m
-before_at now count (Drop m i) = first (moment_at now m) (thread_at count i)
 
 -- the moment of an event; a head and a row bear none, and have the present one
 abbrev pub moment_of : Record → Moment → Moment
@@ -47,15 +28,6 @@ abbrev pub event_in : Reading → Record → Read
 event_in r e = cond (at_events r) (event_read r e) (read_as (Refused 16) r r)
 
 -- ---- they are the parts of document 01
-pub before_at_lem : (s : State) (e : Record) → before_at s.clock.0 s.count e ≡ before_ticks s e
-unfolding before_ticks
-before_at_lem s (Head q n) = refl
-before_at_lem s (Row x) = refl
-before_at_lem s (Arrival m i) = refl
-before_at_lem s (Completion m i) = refl
-before_at_lem s (RunTo m) = refl
-before_at_lem s (Drop m i) = refl
-
 pub ticks_at : (s : State) (e : Record) → (moment_of e s.clock).0 - s.clock.0 ≡ ticks_before s e
 ticks_at s (Head q n) = omega arith
 ticks_at s (Row x) = omega arith
@@ -69,7 +41,7 @@ none true = refl
 none false = refl
 
 -- no tick is due for a head or a row, so the place of events decides
-pub due_at : (r : Reading) (e : Record) → cond (at_events r) (due_as (before_ticks r.state e) (ticks_before r.state e)) 0 ≡ ticks_due r e
+due_at : (r : Reading) (e : Record) → cond (at_events r) (due_as (before_ticks r.state e) (ticks_before r.state e)) 0 ≡ ticks_due r e
 unfolding ticks_due before_ticks
 due_at r (Head q n) = none (at_events r) ∙ sym (none (at_head r))
 due_at r (Row x) = none (at_events r) ∙ sym (none (at_rows r))
@@ -77,6 +49,9 @@ due_at r (Arrival m i) = refl
 due_at r (Completion m i) = refl
 due_at r (RunTo m) = refl
 due_at r (Drop m i) = refl
+
+pub due_is : (r : Reading) (e : Record) (b : Bool) (a : Answer) → at_events r ≡ b → before_ticks r.state e ≡ a → cond b (due_as a (ticks_before r.state e)) 0 ≡ ticks_due r e
+due_is r e b a p d = rw (← p, ← d) (due_at r e)
 
 -- ---- a moment that is not refused
 peel : (b : Bool) (k : ℕ) (a : Answer) → cond b (Refused k) a ≡ Done → (b ≡ false) × (a ≡ Done)
@@ -87,13 +62,14 @@ peel false k a e = (refl, e)
 abbrev pub Ahead : State → ℕ → Type 0
 Ahead s t = (s.clock.0 ≤ t) × (t ≤ clock_end)
 
-ahead_moment : (s : State) (m : Moment) → moment_at s.clock.0 m ≡ Done → Ahead s m.0
+ahead_moment : (s : State) (m : Moment) → moment_answer s m ≡ Done → Ahead s m.0
 ahead_moment s m e =
     let p = peel (ltb clock_end m.0) 13 _ e in
     let q = peel (ltb m.0 s.clock.0) 12 Done p.1 in
     (ltb-false _ _ q.0, ltb-false _ _ p.0)
 
-pub ahead : (s : State) (e : Record) → s.clock.0 ≤ clock_end → before_at s.clock.0 s.count e ≡ Done → Ahead s (moment_of e s.clock).0
+pub ahead : (s : State) (e : Record) → s.clock.0 ≤ clock_end → before_ticks s e ≡ Done → Ahead s (moment_of e s.clock).0
+unfolding before_ticks
 ahead s (Head q n) t d = (omega arith, t)
 ahead s (Row x) t d = (omega arith, t)
 ahead s (Arrival m i) t d = ahead_moment s m (both_done _ _ d).0
@@ -102,37 +78,28 @@ ahead s (RunTo m) t d = ahead_moment s m d
 ahead s (Drop m i) t d = ahead_moment s m (both_done _ _ d).0
 
 -- the run to an event's moment
-pub passed_at : (s : State) (e : Record) → Ahead s (moment_of e s.clock).0 → (passed s (moment_of e s.clock).0).state ≡ state_after (ticks_before s e) s
+pub passed_at : (s : State) (e : Record) → s.clock.0 ≤ clock_end → before_ticks s e ≡ Done → passed s (moment_of e s.clock).0 ≡ done (state_after (ticks_before s e) s)
 unfolding passed
-passed_at s e h = rw (le-ltb _ _ h.0, le-ltb _ _ h.1, ticks_at)
+passed_at s e t d = let h = ahead s e t d in rw (le-ltb _ _ h.0, le-ltb _ _ h.1, ticks_at)
 
 -- ---- the cases of an event
 module _ (r : Reading) (e : Record) where
   pub out_of_place : at_events r ≡ false → read_as (Refused 16) r r ≡ event_in r e
-  out_of_place p = ap (λ (b : Bool). cond b (event_read r e) (read_as (Refused 16) r r)) (sym p)
+  out_of_place p = rw p
 
   module _ (p : at_events r ≡ true) where
-    placed : event_read r e ≡ event_in r e
-    placed = ap (λ (b : Bool). cond b (event_read r e) (read_as (Refused 16) r r)) (sym p)
-
-    pub refused_before : (n : ℕ) → before_at r.state.clock.0 r.state.count e ≡ Refused n → read_as (Refused n) r r ≡ event_in r e
+    pub refused_before : (n : ℕ) → before_ticks r.state e ≡ Refused n → read_as (Refused n) r r ≡ event_in r e
     unfolding event_read
-    refused_before n b = ap (λ (a : Answer). read_as (first a (event_of r.state e).answer) (with_state r (event_of r.state e).state) r) (sym b ∙ before_at_lem r.state e) ∙ placed
+    refused_before n b = rw (p, b)
 
-    module _ (b : before_at r.state.clock.0 r.state.count e ≡ Done) where
-      answered : read_as (event_of r.state e).answer (with_state r (event_of r.state e).state) r ≡ event_in r e
+    module _ (b : before_ticks r.state e ≡ Done) where
+      pub refused_then : (n : ℕ) (s : State) → event_of r.state e ≡ refused n s → read_as (Refused n) r r ≡ event_in r e
       unfolding event_read
-      answered = ap (λ (a : Answer). read_as (first a (event_of r.state e).answer) (with_state r (event_of r.state e).state) r) (sym b ∙ before_at_lem r.state e) ∙ placed
+      refused_then n s x = rw (p, b, x)
 
-      module _ (x : Answered) (is : x ≡ event_of r.state e) where
-        pub refused_then : (n : ℕ) → x.answer ≡ Refused n → read_as (Refused n) r r ≡ event_in r e
-        refused_then n a = ap (λ (y : Answer). read_as y (with_state r (event_of r.state e).state) r) (sym a ∙ ap (λ (y : Answered). y.answer) is) ∙ answered
-
-        pub taken_then : x.answer ≡ Done → read_as Done (with_state r x.state) r ≡ event_in r e
-        taken_then a =
-            ap (λ (y : Answer). read_as y (with_state r x.state) r) (sym a)
-            ∙ ap (λ (y : Answered). read_as y.answer (with_state r y.state) r) is
-            ∙ answered
+      pub taken_then : (s : State) → event_of r.state e ≡ done s → read_as Done (with_state r s) r ≡ event_in r e
+      unfolding event_read
+      taken_then s x = rw (p, b, x)
 
 -- ---- the cases of a head
 head_first : (q n : ℕ) → head_answer q n ≡ Done → read_as Done (headed q n) fresh ≡ record_read fresh (Head q n)
@@ -147,6 +114,12 @@ pub head_taken : (r : Reading) (q n : ℕ) → r ≡ fresh → head_answer q n �
 head_taken r q n e d = subst (λ (r : Reading). read_as Done (with_head q n r) r ≡ record_read r (Head q n)) (sym e) (head_first q n d)
 
 -- ---- the cases of a row
+-- the sum of the shares, as the library says it
+pub shares_sum : (rows : List table.Row) (n : ℕ) → n ≤ length rows → sum_by (λ (x : table.Row). x.share) (take n rows) ≡ shares_to rows n
+unfolding shares_to
+shares_sum rows zero h = refl
+shares_sum rows (suc n) h = rw (← add-one n, sum_by_more (λ (x : table.Row). x.share) rows n no_row (omega arith), shares_sum rows n (omega arith))
+
 module _ (r : Reading) (x : table.Row) where
   -- what the row answers, and the table with it
   abbrev pub its_answer : Answer
@@ -177,6 +150,11 @@ module _ (r : Reading) (x : table.Row) where
       rowed_to s = read_as Done (record { table = with_it; rows = r.rows + 1; state = s }) r
 
       module _ (g : GoodReading r) where
+        -- the last row admits the table
+        pub row_begins : r.rows + 1 ≡ r.table.threads → opening usual_period with_it ≡ done (start usual_period with_it)
+        unfolding opening
+        row_begins e = rw (last_admitted g (rows_come r h) x d e)
+
         pub row_last : r.rows + 1 ≡ r.table.threads → rowed_to (opening usual_period with_it).state ≡ record_read r (Row x)
         row_last e =
             ap rowed_to (opening_whole with_it (last_admitted g (rows_come r h) x d e))

@@ -1,74 +1,50 @@
 // The table that a trace begins with: its head, and its rows one by one.
-ghost use Rattle.std.specs.Prelude.{◌≡◌, ◌≤◌};
-ghost use Rattle.rules.specs.Limits.{max_threads};
-ghost use Rattle.rules.specs.Table.{shares_to};
+ghost use Rattle.std.specs.Prelude.{◌≡◌, ◌<◌, ◌^◌, sum_by};
+ghost use Rattle.rules.specs.Table as table;
 ghost use Rattle.rules.specs.Records as records;
 ghost use Rattle.rules.specs.Reading.{record_read};
 ghost use Rattle.rules.specs.Input.{GivenReading};
+ghost use Rattle.rules.specs.Refusals.{read_from};
 
-use crate::answers::{refused, taken};
-use quantities::{Answer, Read, Reading, Row, Table};
+use quantities::{Reading, Refusal, Row, Table};
 
 // A head begins the table; 16, 1, 2.
-pub fn head(r: Reading, q: u16, n: u16) -> Read
+pub fn head(mut r: Reading, q: u16, n: u16) -> Result<Reading, Refusal>
     requires { GivenReading r }
-    ensures { result ≡ record_read r (records.Head q n) }
+    ensures { read_from r result ≡ record_read r (records.Head q n) }
 {
-    let old = r.table;
-    if old.threads != 0 {
-        return refused(16, r);
+    if r.table.threads != 0 {
+        return Err(Refusal::NotInItsPlace);
     }
-    let a = tables::head(q, n);
-    if let Answer::Refused(m) = a {
-        return refused(m, r);
-    }
-    let mut t = old;
-    t.q = q;
-    t.threads = n;
-    let mut z = r;
-    z.table = t;
-    taken(z)
+    tables::head(q, n)?;
+    r.table.q = q;
+    r.table.threads = n;
+    Ok(r)
 }
 
-// What the shares of the first n rows come to.
-fn shares(t: Table, n: usize) -> u32
-    requires { n ≤ max_threads }
-    ensures { result ≡ shares_to t.rows n }
+// What the shares of these rows come to.
+fn shares(rows: &[Row]) -> u32
+    requires { sum_by (λ (x : table.Row). x.share) rows.now < 2 ^ 32 }
+    ensures { result ≡ sum_by (λ (x : table.Row). x.share) rows.now }
 {
-    let mut sum: u32 = 0;
-    let mut i: usize = 0;
-    while i < n {
-        let x = t.rows[i];
-        sum += x.share as u32;
-        i += 1;
-    }
-    sum
+    rows.iter().map(|x| x.share as u32).sum()
 }
 
 // A row joins the table, and the last one begins the schedule; 16, 3 to 7.
-pub fn row(r: Reading, x: Row) -> Read
+pub fn row(mut r: Reading, x: Row) -> Result<Reading, Refusal>
     requires { GivenReading r }
-    ensures { result ≡ record_read r (records.Row x) }
+    ensures { read_from r result ≡ record_read r (records.Row x) }
 {
     let k = r.rows;
-    let mut t = r.table;
-    let n = t.threads as usize;
+    let n = r.table.threads as usize;
     if k >= n {
-        return refused(16, r);
+        return Err(Refusal::NotInItsPlace);
     }
-    let a = tables::row(t.q, shares(t, k), x);
-    if let Answer::Refused(m) = a {
-        return refused(m, r);
+    tables::row(r.table.q, shares(&r.table.rows[..k]), x)?;
+    r.table.rows[k] = x;
+    r.rows = k + 1;
+    if r.rows == n {
+        r.state = tables::begin(r.table)?;
     }
-    t.rows[k] = x;
-    let mut z = r;
-    z.table = t;
-    z.rows = k + 1;
-    if k + 1 == n {
-        let o = tables::begin(t);
-        let s = o.state;
-        z.state = s;
-        return taken(z);
-    }
-    taken(z)
+    Ok(r)
 }

@@ -1,12 +1,13 @@
 -- What each part of a call comes to.
-use Rattle.std.specs.Prelude.{◌≡◌, refl, Bool, true, false, List, ℕ, suc, ◌+◌, ◌-◌, ◌≤◌, ◌<◌, ◌^◌, length}
-use Rattle.std.proofs.Common.{ap, ◌∙◌, arith}
+use Rattle.std.specs.Prelude.{◌≡◌, Bool, true, false, List, ℕ, suc, ◌+◌, ◌-◌, ◌≤◌, ◌<◌, length}
+use Rattle.std.proofs.Common.{sym, ap, ◌∙◌, subst, arith}
 use Rattle.std.proofs.Math.Decide.{dec_lt}
 use Rattle.std.proofs.lemmas.List.Edits.{sets}
 use Rattle.rules.specs.Limits.{clock_end}
 use Rattle.rules.specs.Threads.{State}
 use Rattle.rules.specs.Table.{Done}
 use Rattle.rules.specs.Records.{Record}
+use Rattle.rules.specs.Refusals.{Refusal, number}
 use Rattle.rules.specs.Reading.{Reading, at_events, with_state, ticks_due, record_read}
 use Rattle.rules.specs.History.{ticks_of}
 use Rattle.rules.specs.Listing.{refusal_line}
@@ -17,33 +18,51 @@ use Rattle.windows.specs.Ticks.{due_events, due_fits, due_steps}
 use Rattle.text.specs.Laws.{refusal_longest}
 use Rattle.accounts.specs.Told.{Tells}
 use Rattle.accounts.specs.Ticks.{NotedTo}
-use Rattle.report.specs.declared.Acted.{Acted}
-use Rattle.report.specs.Tallies.{Tally, roomy, reached_at, finished, GivenTally}
+use Rattle.report.specs.Tallies.{Tally, TallyTurn, roomy, reached_at, finished, GivenTally}
 use Rattle.report.specs.Along.{Brings, Along}
 use Rattle.report.specs.Windows.{read_brings, ticks_brings}
 use Rattle.report.specs.Given.{tally_read, tally_ticks}
-use Rattle.report.specs.Way.{Stands, Open, acted_as, ActedOn, ActedTo, last_acts, last_on}
+use Rattle.promises.specs.Numbers.{number_short}
+use Rattle.report.specs.Way.{Stands, Open, turn_at, AlongTo, ActedOn, ActedTo, last_acts, last_on}
 
-module _ {w out : List ℕ} {from used : ℕ} {p : Tally} (o : Open w out from used p) where
+module _ {w out : List ℕ} {x : TallyTurn} (o : Open w out x) where
+  abbrev from : ℕ
+  from = x.taken
+
+  abbrev used : ℕ
+  used = x.written
+
+  abbrev p : Tally
+  p = x.tally
+
+  -- how far the report comes; it is not done
+  abbrev onto : Reading → List Activity → ℕ → Tally
+  onto r cs b = record { reading = r; activities = cs; place = b; done = p.done }
+
+  onto_reached : (r : Reading) (cs : List Activity) (b : ℕ) → reached_at r cs b ≡ onto r cs b
+  onto_reached r cs b = ap (λ (d : Bool). record { reading = r; activities = cs; place = b; done = d }) (sym o.undone)
+
   -- ---- a refusal
-  refusal_fits : (m : ℕ) → m < 2 ^ 8 → used + length (refusal_line m p.place) ≤ length out
-  refusal_fits m small = omega (arith, refusal_longest m p.place small (omega (arith, o.near)), o.room)
+  module _ (e : Refusal) where
+    abbrev refusal : List ℕ
+    refusal = refusal_line (number e) p.place
 
-  pub stop_acts : (last : Bool) (m : ℕ) {out' : List ℕ} {x : Acted} → x ≡ acted_as true from (used + length (refusal_line m p.place)) (finished p) → out' ≡ sets out used (refusal_line m p.place) → m < 2 ^ 8
-      → Brings last w from p (refusal_line m p.place) from (finished p) → ActedTo last w out from used p out' x
-  stop_acts last m is stored small b = last_acts last w out from used p (refusal_line m p.place) is stored o.given o.within (refusal_some m p.place) (refusal_fits m small) b
+    refusal_fits : used + length refusal ≤ length out
+    refusal_fits = omega (arith, refusal_longest (number e) p.place (number_short e) (omega (arith, o.near)), o.room)
 
-  pub stop_on : (m : ℕ) {out' : List ℕ} {x : Acted} → x ≡ acted_as true from (used + length (refusal_line m p.place)) (finished p) → out' ≡ sets out used (refusal_line m p.place) → m < 2 ^ 8
-      → Brings false w from p (refusal_line m p.place) from (finished p) → ActedOn w out from used p out' x
-  stop_on m is stored small b = last_on (refusal_line m p.place) is stored o.given o.within (refusal_some m p.place) (refusal_fits m small) b
+    module _ {out' : List ℕ} {y : TallyTurn} (is : y ≡ turn_at from (used + length refusal) (finished p)) (stored : out' ≡ sets out used refusal) where
+      pub stop_acts : (last : Bool) → Brings last w from p refusal from (finished p) → ActedTo last w out x out' y true
+      stop_acts last b = last_acts last w out x refusal is stored o.given o.within (refusal_some (number e) p.place) refusal_fits b
+
+      pub stop_on : Brings false w from p refusal from (finished p) → ActedOn w out x out' y
+      stop_on b = last_on refusal is stored o.given o.within (refusal_some (number e) p.place) refusal_fits b
 
   module _ (n : ℕ) (e : Record) (z : Stands w from n e) where
     -- ---- a record that is read, where no tick is due
     module _ (due : ticks_due p.reading e ≡ 0) (q : Reading) (read : record_read p.reading e ≡ record { answer = Done; reading = q }) where
       pub read_on_lem : {out' : List ℕ} {u : ℕ} {cs : List Activity} → Tells p.reading.table p.activities (event_for p.reading.state e) out used out' u cs → u ≤ length out
-          → ActedOn w out from used p out' (acted_as true (from + n) u (reached_at q cs (p.place + n)))
-      read_on_lem t fits = rw t.stands (record {
-        goes = refl;
+          → ActedOn w out x out' (turn_at (from + n) u (onto q cs (p.place + n)))
+      read_on_lem {out'} {u} {cs} t fits = subst (λ (y : Tally). ActedOn w out x out' (turn_at (from + n) u y)) (onto_reached q cs (p.place + n)) (rw t.stands (record {
         given = tally_read o.given e q due read (p.place + n);
         along = record {
           text = told p.reading.table p.activities (event_for p.reading.state e);
@@ -55,7 +74,7 @@ module _ {w out : List ℕ} {from used : ℕ} {p : Tally} (o : Open w out from u
           brings = read_brings w from p o.undone z.kind n z.framed.is e z.known q due read;
         };
         less = omega (arith, t.put.next, z.framed.within, z.framed.least);
-      })
+      }))
 
     -- ---- ticks that are due
     module _ (d : ℕ) (due : ticks_due p.reading e ≡ d) (some : 0 < d) where
@@ -72,11 +91,11 @@ module _ {w out : List ℕ} {from used : ℕ} {p : Tally} (o : Open w out from u
         rest : d ≡ t.count + (d - t.count)
         rest = omega (arith, t.noted.most)
 
-        pub ticks_given : GivenTally (reached_at (with_state p.reading y) cs p.place)
-        ticks_given = rw (t.noted.state, t.noted.tells.stands) (tally_ticks o.given t.count ticks_events (omega (arith, ticks_fit, t.noted.most)) p.place)
+        pub ticks_given : GivenTally (onto (with_state p.reading y) cs p.place)
+        ticks_given = subst GivenTally (onto_reached (with_state p.reading y) cs p.place) (rw (t.noted.state, t.noted.tells.stands) (tally_ticks o.given t.count ticks_events (omega (arith, ticks_fit, t.noted.most)) p.place))
 
-        pub ticks_along : Along false w out from used p out' from u (reached_at (with_state p.reading y) cs p.place)
-        ticks_along = rw (t.noted.state, t.noted.tells.stands) (record {
+        pub ticks_along : AlongTo false w out x out' (turn_at from u (onto (with_state p.reading y) cs p.place))
+        ticks_along = subst (λ (q : Tally). Along false w out from used p out' from u q) (onto_reached (with_state p.reading y) cs p.place) (rw (t.noted.state, t.noted.tells.stands) (record {
           text = told p.reading.table p.activities (ticks_of t.count p.reading.state);
           stored = t.noted.tells.put.stored;
           writes = t.noted.tells.put.next;
@@ -84,12 +103,11 @@ module _ {w out : List ℕ} {from used : ℕ} {p : Tally} (o : Open w out from u
           within = o.within;
           room = t.noted.fits;
           brings = ticks_brings w from p o.undone z.kind n z.framed.is e z.known t.count (d - t.count) (due ∙ rest);
-        })
+        }))
 
         -- where there is little room after them, something was written
-        pub ticks_on : length out < u + roomy → ActedOn w out from used p out' (acted_as true from u (reached_at (with_state p.reading y) cs p.place))
+        pub ticks_on : length out < u + roomy → ActedOn w out x out' (turn_at from u (onto (with_state p.reading y) cs p.place))
         ticks_on short = record {
-          goes = refl;
           given = ticks_given;
           along = ticks_along;
           less = omega (arith, short, o.room, t.noted.fits);

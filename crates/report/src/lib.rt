@@ -1,18 +1,19 @@
 // The report of a trace: from windows of the input into a lent output.
 #![tactic(auto)]
 
-ghost use Rattle.std.specs.Prelude.{◌≡◌, true, false, ◌+◌, ◌≤◌, length};
+ghost use Rattle.std.specs.Prelude.{◌≡◌, ◌+◌, ◌≤◌, length};
 ghost use Rattle.std.proofs.lemmas.List.Edits.{sets};
 ghost use Rattle.rules.specs.Reading.{ticks_due};
+ghost use Rattle.rules.specs.Refusals.{number};
 ghost use Rattle.rules.specs.Listing.{refusal_line};
 ghost use Rattle.rules.specs.Report.{report_end};
 ghost use Rattle.windows.specs.Advance.{farthest};
-ghost use Rattle.report.specs.Tallies.{roomy, begun, finished, reached_at, GivenTally};
+ghost use Rattle.report.specs.Tallies.{roomy, begun, finished, GivenTally};
 ghost use Rattle.report.specs.Events.{is_event};
 ghost use Rattle.report.specs.Turns.{Went};
-ghost use Rattle.report.specs.Way.{Stands, Framed, Open, acted_as, ActedOn, ActedTo};
+ghost use Rattle.report.specs.Way.{turn_at, Stands, Framed, Open, ActedOn, ActedTo};
 
-use quantities::{Activity, Answer, Decoded, Frame, Reading, Record, Table};
+use quantities::{Activity, Frame, Reading, Record, Refusal, Table};
 
 // There is room for all lines of a tick or of an event, or for those of the end.
 pub const ROOM: usize = 16448;
@@ -32,8 +33,8 @@ pub struct Tally {
     pub done: bool,
 }
 
-// What a call of the report answers: how many bytes of the window it took, how many bytes of the
-// output it wrote, and how far it has come.
+// What a call of the report answers, and how far it is on its way: how many bytes of the window it
+// took, how many bytes of the output it wrote, and how far the report has come.
 #[derive(Clone, Copy)]
 pub struct TallyTurn {
     pub taken: usize,
@@ -41,223 +42,119 @@ pub struct TallyTurn {
     pub tally: Tally,
 }
 
-// Where a call stands after a part of it, and whether it goes on.
-#[derive(Clone, Copy)]
-pub struct Acted {
-    pub goes: bool,
-    pub at: usize,
-    pub used: usize,
-    pub tally: Tally,
-}
-
-// A report that is not done.
-fn reached(r: Reading, cs: [Activity; Table::APPS], place: u64) -> Tally
-    ensures { result ≡ reached_at r cs place }
-{
-    Tally {
-        reading: r,
-        activities: cs,
-        place: place,
-        done: false,
-    }
-}
-
-// The last line is written.
-fn done_with(p: Tally) -> Tally
-    ensures { result ≡ finished p }
-{
-    let mut q = p;
-    q.done = true;
-    q
-}
-
 // The report begins: nothing is read, and the heading line is written by its own function.
 pub fn begin() -> Tally
     ensures { result ≡ begun }
 {
-    reached(reader::begin(), accounts::begin(), 0)
-}
-
-// Nothing can be done.
-fn stay(at: usize, used: usize, p: Tally) -> Acted
-    ensures { result ≡ acted_as false at used p }
-{
-    Acted {
-        goes: false,
-        at: at,
-        used: used,
-        tally: p,
+    Tally {
+        reading: reader::begin(),
+        activities: accounts::begin(),
+        place: 0,
+        done: false,
     }
 }
 
 // The last line is a refusal.
-fn stop(out: &mut [u8], at: usize, used: usize, p: Tally, n: u8) -> Acted
-    requires { used + roomy ≤ length out.old }
-    ensures value { result ≡ acted_as true at (used + length (refusal_line n p.place)) (finished p) }
-    ensures out_after { out.new ≡ sets out.old used (refusal_line n p.place) }
+fn stop(out: &mut [u8], turn: &mut TallyTurn, e: Refusal)
+    requires { turn.old.written + roomy ≤ length out.old }
+    ensures value { turn.new ≡ turn_at turn.old.taken (turn.old.written + length (refusal_line (number e) turn.old.tally.place)) (finished turn.old.tally) }
+    ensures out_after { out.new ≡ sets out.old turn.old.written (refusal_line (number e) turn.old.tally.place) }
 {
-    let to = text::refusal(out, used, n, p.place);
-    Acted {
-        goes: true,
-        at: at,
-        used: to,
-        tally: done_with(p),
-    }
+    turn.written = text::refusal(out, turn.written, e as u8, turn.tally.place);
+    turn.tally.done = true;
 }
 
 // The input ends between records: the stretches that still hold, and the last line.
-fn finish(out: &mut [u8], at: usize, used: usize, p: Tally) -> Acted
-    requires { GivenTally p × (p.place ≤ farthest) × (used + roomy ≤ length out.old) }
-    ensures value { result ≡ acted_as true at (used + length (report_end p.reading p.activities p.place)) (finished p) }
-    ensures out_after { out.new ≡ sets out.old used (report_end p.reading p.activities p.place) }
-    ensures place_in_bounds { used + length (report_end p.reading p.activities p.place) ≤ length out.old }
+fn finish(out: &mut [u8], turn: &mut TallyTurn)
+    requires { GivenTally turn.old.tally × (turn.old.tally.place ≤ farthest) × (turn.old.written + roomy ≤ length out.old) }
+    ensures value { turn.new ≡ turn_at turn.old.taken (turn.old.written + length (report_end turn.old.tally.reading turn.old.tally.activities turn.old.tally.place)) (finished turn.old.tally) }
+    ensures out_after { out.new ≡ sets out.old turn.old.written (report_end turn.old.tally.reading turn.old.tally.activities turn.old.tally.place) }
+    ensures place_in_bounds { turn.old.written + length (report_end turn.old.tally.reading turn.old.tally.activities turn.old.tally.place) ≤ length out.old }
 {
-    let x = reader::ended(p.reading, p.place as usize);
-    let a = x.answer;
-    if let Answer::Refused(n) = a {
-        return stop(out, at, used, p, n);
+    let p = &turn.tally;
+    if let Err(refusal) = reader::ended(&p.reading) {
+        return stop(out, turn, refusal);
     }
-    let r = p.reading;
-    let t = r.table;
-    let cs = p.activities;
-    let held = accounts::still_open(out, used, t, cs, r.state.clock);
-    let to = text::end(out, held, r.state.clock.0);
-    Acted {
-        goes: true,
-        at: at,
-        used: to,
-        tally: done_with(p),
-    }
+    let now = p.reading.state.clock;
+    let held = accounts::still_open(out, turn.written, &p.reading.table, &p.activities, now);
+    turn.written = text::end(out, held, now.0);
+    turn.tally.done = true;
 }
 
 // Whether something happens by the record e at its moment.
 fn is_event(e: Record) -> bool
     ensures { result ≡ is_event e }
 {
-    match e {
-        Record::Head(q, n) => false,
-        Record::Row(x) => false,
-        Record::Arrival(m, i) => true,
-        Record::Completion(m, i) => true,
-        Record::RunTo(m) => false,
-        Record::Drop(m, i) => true,
-    }
+    matches!(
+        e,
+        Record::Arrival(..) | Record::Completion(..) | Record::Drop(..)
+    )
 }
 
-// The record e, for which no tick is due.
-fn apply(w: &[u8], out: &mut [u8], at: usize, used: usize, p: Tally, n: usize, e: Record) -> Acted
-    requires { Open w.now out.old at used p × Stands w.now at n e × (ticks_due p.reading e ≡ 0) }
-    ensures { ActedOn w.now out.old at used p out.new result }
+// The record e of n bytes, for which no tick is due.
+fn apply(w: &[u8], out: &mut [u8], turn: &mut TallyTurn, n: usize, e: Record)
+    requires { Open w.now out.old turn.old × Stands w.now turn.old.taken n e × (ticks_due turn.old.tally.reading e ≡ 0) }
+    ensures { ActedOn w.now out.old turn.old out.new turn.new }
 {
-    let r = p.reading;
-    let cs = p.activities;
-    let place = p.place;
-    let x = reader::record(r, e);
-    let a = x.answer;
-    if let Answer::Refused(m) = a {
-        return stop(out, at, used, p, m);
+    let p = &mut turn.tally;
+    let next = match reader::record(p.reading, e) {
+        Ok(next) => next,
+        Err(refusal) => return stop(out, turn, refusal),
+    };
+    if is_event(e) {
+        let r = &p.reading;
+        let cs = &mut p.activities;
+        turn.written = accounts::events::event(out, turn.written, &r.table, cs, &r.state, e);
     }
-    let next = at + n;
-    let z = x.reading;
-    if !is_event(e) {
-        return Acted {
-            goes: true,
-            at: next,
-            used: used,
-            tally: reached(z, cs, place + n as u64),
-        };
-    }
-    let t = r.table;
-    let s = r.state;
-    let y = accounts::events::event(out, used, t, cs, s, e);
-    let ds = y.activities;
-    Acted {
-        goes: true,
-        at: next,
-        used: y.used,
-        tally: reached(z, ds, place + n as u64),
-    }
+    p.reading = next;
+    p.place += n as u64;
+    turn.taken += n;
 }
 
-// The ticks before the record e and, where there is room left after them, the record.
-fn known(w: &[u8], out: &mut [u8], at: usize, used: usize, p: Tally, n: usize, e: Record) -> Acted
-    requires { Open w.now out.old at used p × Stands w.now at n e }
-    ensures { ActedOn w.now out.old at used p out.new result }
+// The ticks before the record e of n bytes and, where there is room left after them, the record.
+fn known(w: &[u8], out: &mut [u8], turn: &mut TallyTurn, n: usize, e: Record)
+    requires { Open w.now out.old turn.old × Stands w.now turn.old.taken n e }
+    ensures { ActedOn w.now out.old turn.old out.new turn.new }
 {
-    let r = p.reading;
-    let cs = p.activities;
-    let place = p.place;
-    let d = reader::due(r, e);
-    if d == 0 {
-        return apply(w, out, at, used, p, n, e);
+    let d = reader::due(turn.tally.reading, e);
+    if d > 0 {
+        let r = &mut turn.tally.reading;
+        let cs = &mut turn.tally.activities;
+        turn.written = accounts::ticks::ticks(out, turn.written, &r.table, cs, &mut r.state, d);
+        if out.len() - turn.written < ROOM {
+            return;
+        }
     }
-    let t = r.table;
-    let s = r.state;
-    let x = accounts::ticks::ticks(out, used, t, cs, s, d);
-    let to = x.used;
-    let mut q = r;
-    let z = x.state;
-    q.state = z;
-    let ds = x.activities;
-    let y = reached(q, ds, place);
-    if out.len() - to < ROOM {
-        return Acted {
-            goes: true,
-            at: at,
-            used: to,
-            tally: y,
-        };
-    }
-    apply(w, out, at, to, y, n, e)
+    apply(w, out, turn, n, e);
 }
 
 // A whole record of this kind, of n bytes.
-fn whole(w: &[u8], out: &mut [u8], at: usize, used: usize, p: Tally, kind: u16, n: usize) -> Acted
-    requires { Open w.now out.old at used p × Framed w.now at kind n }
-    ensures { ActedOn w.now out.old at used p out.new result }
+fn whole(w: &[u8], out: &mut [u8], turn: &mut TallyTurn, kind: u16, n: usize)
+    requires { Open w.now out.old turn.old × Framed w.now turn.old.taken kind n }
+    ensures { ActedOn w.now out.old turn.old out.new turn.new }
 {
-    let start = at + 4;
-    let end = at + n;
-    let d = trace::decode(kind, &w[start..end]);
-    match d {
-        Decoded::Known(e) => known(w, out, at, used, p, n, e),
-        Decoded::Refused(m) => stop(out, at, used, p, m),
+    match trace::decode(kind, &w[turn.taken + 4..turn.taken + n]) {
+        Ok(e) => known(w, out, turn, n, e),
+        Err(refusal) => stop(out, turn, refusal),
     }
 }
 
-// The next part of a call: ticks and a record, the last lines, or nothing.
-fn act(w: &[u8], last: bool, out: &mut [u8], at: usize, used: usize, p: Tally) -> Acted
-    requires { GivenTally p × (at ≤ length w.now) × (used ≤ length out.old) }
-    ensures { ActedTo last w.now out.old at used p out.new result }
+// The next part of a call: ticks and a record, or the last lines; or nothing, and then the call is over.
+fn act(w: &[u8], last: bool, out: &mut [u8], turn: &mut TallyTurn) -> bool
+    requires { GivenTally turn.old.tally × (turn.old.taken ≤ length w.now) × (turn.old.written ≤ length out.old) }
+    ensures { ActedTo last w.now out.old turn.old out.new turn.new result }
 {
-    if p.done {
-        return stay(at, used, p);
+    if turn.tally.done || out.len() - turn.written < ROOM || turn.tally.place > FARTHEST {
+        return false;
     }
-    if out.len() - used < ROOM {
-        return stay(at, used, p);
+    let left = w.len() - turn.taken;
+    match trace::frame(&w[turn.taken..]) {
+        Frame::Ended if last => finish(out, turn),
+        Frame::Cut if last || left >= WIDEST => stop(out, turn, Refusal::CutShort),
+        Frame::Ended | Frame::Cut => return false,
+        Frame::Whole(kind, n) => whole(w, out, turn, kind, n),
     }
-    if p.place > FARTHEST {
-        return stay(at, used, p);
-    }
-    let f = trace::frame(&w[at..]);
-    match f {
-        Frame::Ended => {
-            if last {
-                return finish(out, at, used, p);
-            }
-            stay(at, used, p)
-        }
-        Frame::Cut => {
-            if last {
-                return stop(out, at, used, p, 14);
-            }
-            if w.len() - at >= WIDEST {
-                return stop(out, at, used, p, 14);
-            }
-            stay(at, used, p)
-        }
-        Frame::Whole(kind, n) => whole(w, out, at, used, p, kind, n),
-    }
+    true
 }
 
 // A call: as much as the window and the output allow.
@@ -265,20 +162,11 @@ pub fn advance(w: &[u8], last: bool, p: Tally, out: &mut [u8]) -> TallyTurn
     requires { GivenTally p }
     ensures { Went last w.now out.old p out.new result }
 {
-    let mut q = p;
-    let mut at: usize = 0;
-    let mut used: usize = 0;
-    let mut going = true;
-    while going {
-        let x = act(w, last, out, at, used, q);
-        going = x.goes;
-        at = x.at;
-        used = x.used;
-        q = x.tally;
-    }
-    TallyTurn {
-        taken: at,
-        written: used,
-        tally: q,
-    }
+    let mut turn = TallyTurn {
+        taken: 0,
+        written: 0,
+        tally: p,
+    };
+    while act(w, last, out, &mut turn) {}
+    turn
 }

@@ -4,7 +4,13 @@ use Rattle.std.specs.Prelude.{◌≡◌, cond, List, [], ◌∷◌, ℕ, zero, s
 use Rattle.rules.specs.Table.{Answer, Done, Refused}
 use Rattle.rules.specs.Records.{Frame, Ended, Cut, Whole, Record, frame_of, body_of}
 use Rattle.rules.specs.Reading.{Reading, fresh, at_events, record_read, read}
-pub use Rattle.quantities.specs.declared.InputRead.{InputRead}
+
+-- what an input held whole gives: the answer, the byte at which the refused record starts or the input ends, and the reading
+-- up to there
+pub record InputRead : Type 0 where
+  pub answer : Answer
+  pub at : ℕ
+  pub reading : Reading
 
 -- the answer, the byte that it is given at, and the reading up to there
 abbrev pub stopped : Answer → ℕ → Reading → InputRead

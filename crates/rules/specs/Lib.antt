@@ -18,3 +18,4 @@ pub mod Reading
 pub mod Listing
 pub mod Report
 pub mod Input
+pub mod Refusals

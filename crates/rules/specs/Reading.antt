@@ -12,7 +12,11 @@ use Rattle.rules.specs.Run.{state_after}
 use Rattle.rules.specs.Records.{Moment, Record, Head, Row, Arrival, Completion, RunTo, Drop, Decoded, Known, decoded}
 use Rattle.rules.specs.Records as records
 pub use Rattle.quantities.specs.declared.Reading.{Reading}
-pub use Rattle.quantities.specs.declared.Read.{Read}
+
+-- what a record answers, and the reading after it
+pub record Read : Type 0 where
+  pub answer : Answer
+  pub reading : Reading
 
 -- nothing has been read
 abbrev pub fresh : Reading

@@ -5,8 +5,11 @@ pub use Rattle.quantities.specs.declared.Frame.{Frame}
 pub use Rattle.quantities.specs.declared.Frame.TheVariants.{Ended, Cut, Whole}
 pub use Rattle.quantities.specs.declared.Record.{Record}
 pub use Rattle.quantities.specs.declared.Record.TheVariants.{Head, Row, Arrival, Completion, RunTo, Drop}
-pub use Rattle.quantities.specs.declared.Decoded.{Decoded}
-pub use Rattle.quantities.specs.declared.Decoded.TheVariants.{Known, Refused}
+
+-- what the body of a record says, or the number with which it is refused
+pub data Decoded : Type 0 where
+  Known : Record → Decoded
+  Refused : ℕ → Decoded
 
 -- "little-endian"
 abbrev pub le16 : List ℕ → ℕ → ℕ

@@ -4,9 +4,16 @@ use Rattle.rules.specs.Limits.{max_q, max_threads, max_app, max_period, nobody}
 use Rattle.rules.specs.Threads.{Thread, State, Inactive, blank, amt}
 pub use Rattle.quantities.specs.declared.Row.{Row}
 pub use Rattle.quantities.specs.declared.Table.{Table}
-pub use Rattle.quantities.specs.declared.Answer.{Answer}
-pub use Rattle.quantities.specs.declared.Answer.TheVariants.{Done, Refused}
-pub use Rattle.quantities.specs.declared.Answered.{Answered}
+
+-- what a table, an event or a run answers
+pub data Answer : Type 0 where
+  Done : Answer
+  Refused : ℕ → Answer
+
+-- "a refusal returns its number and the state it was given"
+pub record Answered : Type 0 where
+  pub answer : Answer
+  pub state : State
 
 -- the number of a refusal, and 0 for none
 abbrev pub number_of : Answer → ℕ

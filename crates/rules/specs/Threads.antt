@@ -1,11 +1,11 @@
 -- Document 01, "Quantities": threads, amounts, the free share, and the order of deadlines.
-use Rattle.std.specs.Prelude.{Bool, true, false, not, cond, ◌&&◌, List, ℕ, zero, suc, ◌*◌, eqb, ℤ, pos, ◌-ℤ◌, ◌*ℤ◌, get_or, set, take}
+use Rattle.std.specs.Prelude.{Bool, true, false, not, cond, ◌&&◌, List, Option, None, Some, ℕ, zero, suc, ◌*◌, eqb, ℤ, pos, ◌-ℤ◌, ◌*ℤ◌, get_or, set, take}
 use Rattle.std.specs.Int.Signed.{lt_z}
 use Rattle.lists.specs.Sum.{sum_by}
 use Rattle.rules.specs.Limits.{nobody}
 pub use Rattle.quantities.specs.declared.Amount.{Amount}
-pub use Rattle.quantities.specs.declared.Order.{Order}
-pub use Rattle.quantities.specs.declared.Order.TheVariants.{Earlier, Equal, Later}
+pub use Rattle.std.specs.declared.cmp.Ordering.{Ordering}
+pub use Rattle.std.specs.declared.cmp.Ordering.TheVariants.{Less, Equal, Greater}
 pub use Rattle.quantities.specs.declared.Phase.{Phase}
 pub use Rattle.quantities.specs.declared.Phase.TheVariants.{Inactive, Contending, NonContending}
 pub use Rattle.quantities.specs.declared.Thread.{Thread}
@@ -80,15 +80,15 @@ abbrev pub free_of : ℕ → State → ℕ
 free_of a s = free a s.count s.threads
 
 -- "Deadlines of two threads are compared as fractions, E1 × u2 against E2 × u1."
-abbrev pub compare : Thread → Thread → Order
+abbrev pub compare : Thread → Thread → Ordering
 compare x y =
-    cond (lt_z (x.e.0 *ℤ pos y.share) (y.e.0 *ℤ pos x.share)) Earlier
-    (cond (lt_z (y.e.0 *ℤ pos x.share) (x.e.0 *ℤ pos y.share)) Later Equal)
+    cond (lt_z (x.e.0 *ℤ pos y.share) (y.e.0 *ℤ pos x.share)) Less
+    (cond (lt_z (y.e.0 *ℤ pos x.share) (x.e.0 *ℤ pos y.share)) Greater Equal)
 
-abbrev pub is_earlier : Order → Bool
-is_earlier Earlier = true
+abbrev pub is_earlier : Ordering → Bool
+is_earlier Less = true
 is_earlier Equal = false
-is_earlier Later = false
+is_earlier Greater = false
 
 -- x has the earlier deadline
 abbrev pub sooner : Thread → Thread → Bool
@@ -106,6 +106,10 @@ earliest p (suc i) xs = closer p xs (earliest p i xs) i
 -- z less of W
 abbrev pub loses : ℤ → Thread → Thread
 loses z x = with x x.phase (x.w.0 -ℤ z) x.e.0
+
+-- the thread with the number b, unless that is nobody's
+abbrev pub someone : ℕ → Option ℕ
+someone b = cond (eqb b nobody) None (Some b)
 
 -- z is taken from the W of thread i, or from nobody's
 unfoldable pub lose_at : ℤ → List Thread → ℕ → List Thread

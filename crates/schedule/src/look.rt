@@ -14,7 +14,5 @@ pub fn free_share(s: State, a: u16) -> u32
     if a > Table::MAX_APP {
         return 0;
     }
-    let f = free_table(s);
-    let k = a as usize;
-    f[k]
+    free_table(s)[a as usize]
 }

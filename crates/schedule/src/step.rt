@@ -4,68 +4,24 @@ ghost use Rattle.rules.specs.Limits.{nobody, clock_end};
 ghost use Rattle.rules.specs.Step.{stepped};
 ghost use Rattle.rules.specs.Run.{ran, passed};
 ghost use Rattle.rules.specs.Calls.{Given};
+ghost use Rattle.rules.specs.Refusals.{answered};
 ghost use Rattle.promises.specs.Taken.{entry_to, outcome_to};
+ghost use Rattle.schedule.specs.Until.{until};
 
-use crate::passes::{charge, idle_tick};
-use quantities::{Answer, Answered, Deadline, Moment, Outcome, State, Stepped, Table};
-use threads::thread::{contends, deadline, fit_one, is_active, leads, left_unless, spare};
+use crate::passes::{charge, fit, idle_tick, leave};
+use quantities::{Moment, Outcome, Refusal, State, Stepped, Table};
 
-// The state after one tick before the clock's end; who had it stands in the state. Steps 2, 4 and 5
-// are loops of one function, since a state that goes from function to function is copied. Each deadline
-// is parted once; those of the earliest so far stand in `o` and `due`.
-fn tick(s: State) -> State
-    requires { Given s × (s.clock.0 ≡ clock_end → ⊥) }
-    ensures { result ≡ (stepped s).state }
+// One tick before the clock's end; who had it stands in the state.
+fn tick(s: &mut State)
+    requires { Given s.old × (s.old.clock.0 ≡ clock_end → ⊥) }
+    ensures { s.new ≡ (stepped s.old).state }
 {
-    let n = s.count;
-    let q = s.q;
-    let now = s.clock;
-    let closed = s.closed;
-    let mut z = s;
-    let mut free = [0u32; Table::APPS];
-    let mut i: usize = 0;
-    // step 2, and the free share of each application after it
-    while i < n {
-        let x = z.threads[i];
-        let t = left_unless(closed, x, now);
-        z.threads[i] = t;
-        let a = t.app as usize;
-        let r = free[a];
-        free[a] = r + spare(t);
-        i += 1;
+    let free = leave(s);
+    let it = fit(s, &free);
+    match it.chosen {
+        Some(c) => charge(s, c.thread, &free, &it.best),
+        None => idle_tick(s),
     }
-    let mut b: usize = Table::NOBODY;
-    let mut o = Deadline::NONE;
-    let mut best = [Table::NOBODY; Table::APPS];
-    let mut due = [Deadline::NONE; Table::APPS];
-    let mut j: usize = 0;
-    // step 4, and of those that fit by now who would benefit (6) and who would be chosen (5)
-    while j < n {
-        let k = j;
-        j += 1;
-        let x = z.threads[k];
-        let a = x.app as usize;
-        let room = q - free[a];
-        let t = fit_one(x, room);
-        z.threads[k] = t;
-        if is_active(t) {
-            let d = deadline(t);
-            if leads(d, due[a], best[a]) {
-                best[a] = k;
-                due[a] = d;
-            }
-            if contends(t) {
-                if leads(d, o, b) {
-                    b = k;
-                    o = d;
-                }
-            }
-        }
-    }
-    if b == Table::NOBODY {
-        return idle_tick(z);
-    }
-    charge(z, b, free, best)
 }
 
 // The answer of a tick that `had` had.
@@ -91,102 +47,70 @@ fn entry_to(had: usize) -> u16
 }
 
 // One tick: who has it, and the state after it; 13 at the clock's end.
-pub fn step(s: State) -> Stepped
+pub fn step(mut s: State) -> Stepped
     requires { Given s }
     ensures { result ≡ stepped s }
 {
-    let end = Table::CLOCK_END;
-    if s.clock.0 == end.0 {
+    if s.clock == Table::CLOCK_END {
         return Stepped {
-            outcome: Outcome::Refused(13),
+            outcome: Outcome::Refused(Refusal::BeyondTheEnd as u8),
             state: s,
         };
     }
-    let z = tick(s);
-    let o = outcome_to(z.had);
+    tick(&mut s);
     Stepped {
-        outcome: o,
-        state: z,
+        outcome: outcome_to(s.had),
+        state: s,
     }
 }
 
-// The state after one tick, in which who had it stands; at the clock's end the state itself.
-pub fn next(s: State) -> State
-    requires { Given s }
-    ensures { result ≡ (stepped s).state }
+// One tick of a state that is lent, in which who had it then stands; at the clock's end nothing changes.
+pub fn next(s: &mut State)
+    requires { Given s.old }
+    ensures { s.new ≡ (stepped s.old).state }
 {
-    let last = Table::CLOCK_END;
-    if s.clock.0 == last.0 {
-        return s;
+    if s.clock != Table::CLOCK_END {
+        tick(s);
     }
-    tick(s)
+}
+
+// How many ticks lie before the moment `to`; 12, 13.
+#[tactic(auto, unfolding(crate::specs::Until::until))]
+fn ticks_until(now: Moment, to: Moment) -> Result<usize, Refusal>
+    ensures { result ≡ until now.0 to.0 }
+{
+    if to < now {
+        return Err(Refusal::BeforeTheClock);
+    }
+    if to > Table::CLOCK_END {
+        return Err(Refusal::BeyondTheEnd);
+    }
+    Ok((to.0 - now.0) as usize)
 }
 
 // The ticks up to the moment `to`, one entry of the row for each; 12, 13, 17.
-pub fn run(s: State, to: Moment, row: &mut [u16]) -> Answered
+pub fn run(mut s: State, to: Moment, row: &mut [u16]) -> Result<State, Refusal>
     requires { Given s }
-    ensures { (result ≡ (ran s to.0 row.old).result) × (row.new ≡ (ran s to.0 row.old).row) }
+    ensures { (answered s result ≡ (ran s to.0 row.old).result) × (row.new ≡ (ran s to.0 row.old).row) }
 {
-    let end = Table::CLOCK_END;
-    if to.0 < s.clock.0 {
-        return Answered {
-            answer: Answer::Refused(12),
-            state: s,
-        };
-    }
-    if to.0 > end.0 {
-        return Answered {
-            answer: Answer::Refused(13), // whatever the row
-            state: s,
-        };
-    }
-    let n = (to.0 - s.clock.0) as usize;
+    let n = ticks_until(s.clock, to)?; // whatever the row
     if row.len() < n {
-        return Answered {
-            answer: Answer::Refused(17),
-            state: s,
-        };
+        return Err(Refusal::RowTooShort);
     }
-    let mut z = s;
-    let mut i: usize = 0;
-    while i < n {
-        z = tick(z);
-        row[i] = entry_to(z.had);
-        i += 1;
+    for i in 0..n {
+        tick(&mut s);
+        row[i] = entry_to(s.had);
     }
-    Answered {
-        answer: Answer::Done,
-        state: z,
-    }
+    Ok(s)
 }
 
 // The ticks up to the moment `to`, with no row for them; 12, 13.
-pub fn pass(s: State, to: Moment) -> Answered
+pub fn pass(mut s: State, to: Moment) -> Result<State, Refusal>
     requires { Given s }
-    ensures { result ≡ passed s to.0 }
+    ensures { answered s result ≡ passed s to.0 }
 {
-    let end = Table::CLOCK_END;
-    if to.0 < s.clock.0 {
-        return Answered {
-            answer: Answer::Refused(12),
-            state: s,
-        };
+    for _ in 0..ticks_until(s.clock, to)? {
+        tick(&mut s); // and no entry
     }
-    if to.0 > end.0 {
-        return Answered {
-            answer: Answer::Refused(13),
-            state: s,
-        };
-    }
-    let n = (to.0 - s.clock.0) as usize;
-    let mut y = s;
-    let mut k: usize = 0;
-    while k < n {
-        y = tick(y);
-        k += 1;
-    }
-    Answered {
-        answer: Answer::Done,
-        state: y,
-    }
+    Ok(s)
 }

@@ -4,7 +4,7 @@
 -- κs: lifetimes; a: what is passed; r: the answer; s: what is lent, at the end.
 use Rattle.std.specs.Prelude.{◌≡◌, refl, Bool, true, List, [], ◌++◌, ℕ, ◌+◌, ◌≤◌, ◌<◌, length, drop}
 use Rattle.std.proofs.Common.{sym, ap, ◌∙◌, subst, arith}
-use Rattle.std.specs.Borrow.{MutBor}
+use Rattle.std.specs.Borrow.{Bor, MutBor}
 use Rattle.rules.specs.Limits.{clock_end}
 use Rattle.rules.specs.Threads.{State}
 use Rattle.rules.specs.Table.{Table, Done}
@@ -58,21 +58,21 @@ accounts_begin_asks κs a = tt
 pub still_open_one : (κs : _) (a : _) (r r' : _) (s s' : _) → held.Learnt κs a r s → held.Learnt κs a r' s' → (r ≡ r') × (s.0.now ≡ s'.0.now)
 still_open_one κs a r r' s s' p q = put_same p.0 q.0
 
-pub still_open_asks : (κs : _) (out : MutBor (List ℕ)) (from : ℕ) (p : Tally) → Running p → from + room ≤ length out.now
-    → held.Asked κs (out, (from, (p.reading.table, (p.activities, (p.reading.state.clock, tt)))))
-still_open_asks κs out from p g roomy = (record { state = p.reading.state; given = given g; kept = kept g; clock = refl }, roomy)
+pub still_open_asks : (κs : _) (out : MutBor (List ℕ)) (from : ℕ) (t : Bor Table) (cs : Bor (List Activity)) (p : Tally) → Running p → t.now ≡ p.reading.table → cs.now ≡ p.activities → from + room ≤ length out.now
+    → held.Asked κs (out, (from, (t, (cs, (p.reading.state.clock, tt)))))
+still_open_asks κs out from t cs p g te ce roomy = rw (te, ce) (record { state = p.reading.state; given = given g; kept = kept g; clock = refl }, roomy)
 
 tells_same : {t : Table} {cs c₁ c₂ : List Activity} {hs : List Happening} {out out₁ out₂ : List ℕ} {from k₁ k₂ : ℕ} → Tells t cs hs out from out₁ k₁ c₁ → Tells t cs hs out from out₂ k₂ c₂
     → (k₁ ≡ k₂) × (c₁ ≡ c₂) × (out₁ ≡ out₂)
 tells_same p q = let e = put_same p.put q.put in (e.0, one p.stands q.stands, e.1)
 
-pub event_one : (κs : _) (a : _) (r r' : _) (s s' : _) → event.Learnt κs a r s → event.Learnt κs a r' s' → (r.used ≡ r'.used) × (r.activities ≡ r'.activities) × (s.0.now ≡ s'.0.now)
+pub event_one : (κs : _) (a : _) (r r' : _) (s s' : _) → event.Learnt κs a r s → event.Learnt κs a r' s' → (r ≡ r') × (s.1.1.1.0.now ≡ s'.1.1.1.0.now) × (s.0.now ≡ s'.0.now)
 event_one κs a r r' s s' p q = tells_same p.0 q.0
 
-pub event_asks : (κs : _) (out : MutBor (List ℕ)) (from : ℕ) (p : Tally) (e : Record)
-    → Running p → (at_its_moment p.reading.state e).answer ≡ Done → from + room ≤ length out.now
-    → event.Asked κs (out, (from, (p.reading.table, (p.activities, (p.reading.state, (e, tt))))))
-event_asks κs out from p e g accepted roomy = (given g, kept g, accepted, roomy)
+pub event_asks : (κs : _) (out : MutBor (List ℕ)) (from : ℕ) (t : Bor Table) (cs : MutBor (List Activity)) (s : Bor State) (p : Tally) (e : Record)
+    → Running p → t.now ≡ p.reading.table → cs.now ≡ p.activities → s.now ≡ p.reading.state → (at_its_moment p.reading.state e).answer ≡ Done → from + room ≤ length out.now
+    → event.Asked κs (out, (from, (t, (cs, (s, (e, tt))))))
+event_asks κs out from t cs s p e g te ce se accepted roomy = rw (te, ce, se) (given g, kept g, accepted, roomy)
 
 -- as many ticks as there is room for
 counts_same : {t : Table} {cs c₁ c₂ : List Activity} {s z₁ z₂ : State} {n : ℕ} {out out₁ out₂ : List ℕ} {from k₁ k₂ : ℕ} (p : NotedTo t cs s n out from out₁ k₁ c₁ z₁)
@@ -88,13 +88,13 @@ noted_same {t} {cs} {s = s} {out = out} {out₂ = out₂} {from = from} {k₂ = 
     same : p.count ≡ q.count
     same = omega (arith, counts_same p q, counts_same q p)
 
-pub ticks_one : (κs : _) (a : _) (r r' : _) (s s' : _) → ticks.Learnt κs a r s → ticks.Learnt κs a r' s' → (r.used ≡ r'.used) × (r.activities ≡ r'.activities) × (r.state ≡ r'.state) × (s.0.now ≡ s'.0.now)
+pub ticks_one : (κs : _) (a : _) (r r' : _) (s s' : _) → ticks.Learnt κs a r s → ticks.Learnt κs a r' s' → (r ≡ r') × (s.1.1.1.0.now ≡ s'.1.1.1.0.now) × (s.1.1.1.1.0.now ≡ s'.1.1.1.1.0.now) × (s.0.now ≡ s'.0.now)
 ticks_one κs a r r' s s' p q = noted_same p q
 
-pub ticks_asks : (κs : _) (out : MutBor (List ℕ)) (from : ℕ) (p : Tally) (n : ℕ)
-    → Running p → p.reading.state.clock.0 + n ≤ clock_end → from ≤ length out.now
-    → ticks.Asked κs (out, (from, (p.reading.table, (p.activities, (p.reading.state, (n, tt))))))
-ticks_asks κs out from p n g early within = (given g, kept g, early, within)
+pub ticks_asks : (κs : _) (out : MutBor (List ℕ)) (from : ℕ) (t : Bor Table) (cs : MutBor (List Activity)) (s : MutBor State) (p : Tally) (n : ℕ)
+    → Running p → t.now ≡ p.reading.table → cs.now ≡ p.activities → s.now ≡ p.reading.state → p.reading.state.clock.0 + n ≤ clock_end → from ≤ length out.now
+    → ticks.Asked κs (out, (from, (t, (cs, (s, (n, tt))))))
+ticks_asks κs out from t cs s p n g te ce se early within = rw (te, ce, se) (given g, kept g, early, within)
 
 pub report_begin_one : (κs : _) (a : _) (r r' : _) (s s' : _) → report-begin.Learnt κs a r s → report-begin.Learnt κs a r' s' → r ≡ r'
 report_begin_one κs a r r' s s' p q = one p q

@@ -1,23 +1,21 @@
 -- "Any two outcomes it allows are proved to be one", and what it asks, of the functions of `threads`: no more than that threads and amounts
 -- are within bounds. `given_sound` of the promises has `Sound` of every given state, and with it `RowOk` of each of its threads.
 -- κs: lifetimes; a: what is passed; r: the answer; s: what is lent, at the end, or in `-asks` a state.
-use Rattle.std.specs.Prelude.{◌≡◌, ℕ, ◌≤◌}
+use Rattle.std.specs.Prelude.{◌≡◌, ℕ, ◌≤◌, List, None, Some}
 use Rattle.std.proofs.Common.{◌∙◌, arith}
 use Rattle.std.specs.Int.{w64}
 use Rattle.quantities.specs.declared.Amount.{Amount}
-use Rattle.integers.specs.Parts.{Small, small_add, small_sub, small_times}
+use Rattle.integers.specs.Parts.{Small, small_add, small_sub}
 use Rattle.rules.specs.Limits.{max_q}
-use Rattle.rules.specs.Threads.{Thread, State, compare}
+use Rattle.rules.specs.Threads.{Thread, State, at, compare}
 use Rattle.promises.specs.Sound.{Sound, RowOk}
 use Rattle.promises.specs.Item3.{deadline_of}
 use Rattle.promises.specs.Remainders.{parted, parts_compare}
+use Rattle.promises.specs.Tables.{leading}
 use Rattle.settled.specs.One.{one}
-use Rattle.threads.proofs.amounts.add.Reads as add
-use Rattle.threads.proofs.amounts.sub.Reads as sub
-use Rattle.threads.proofs.amounts.less.Reads as less
-use Rattle.threads.proofs.amounts.amount_of.Reads as amount_of
-use Rattle.threads.proofs.amounts.times.Reads as times
-use Rattle.threads.proofs.amounts.count_of.Reads as count_of
+use Rattle.quantities.proofs.AmountAdd.add.Reads as add
+use Rattle.quantities.proofs.AmountSub.sub.Reads as sub
+use Rattle.quantities.proofs.AmountFromU32.from.Reads as parts
 use Rattle.threads.proofs.amounts.scaled.Reads as scaled
 use Rattle.threads.proofs.thread.inactive.Reads as inactive
 use Rattle.threads.proofs.thread.contends.Reads as contends
@@ -30,7 +28,7 @@ use Rattle.threads.proofs.thread.fit_one.Reads as fit_one
 use Rattle.threads.proofs.thread.deadline.Reads as deadline
 use Rattle.threads.proofs.thread.compared.Reads as compared
 use Rattle.threads.proofs.thread.earlier.Reads as earlier
-use Rattle.threads.proofs.thread.leads.Reads as leads
+use Rattle.threads.proofs.thread.closer.Reads as closer
 use Rattle.threads.proofs.thread.lighter.Reads as lighter
 use Rattle.threads.proofs.receiving.ending.Reads as ending
 use Rattle.threads.proofs.receiving.find_receiver.Reads as find_receiver
@@ -48,29 +46,11 @@ sub_one κs a r r' s s' p q = one p q
 pub sub_asks : (κs : _) (x : Amount) (y : Amount) → Small x.0 → Small y.0 → sub.Asked κs (x, (y, tt))
 sub_asks κs x y f g = small_sub w64 x.0 y.0 (omega arith) f g
 
-pub less_one : (κs : _) (a : _) (r r' : _) (s s' : _) → less.Learnt κs a r s → less.Learnt κs a r' s' → r ≡ r'
-less_one κs a r r' s s' p q = one p q
+pub parts_one : (κs : _) (a : _) (r r' : _) (s s' : _) → parts.Learnt κs a r s → parts.Learnt κs a r' s' → r ≡ r'
+parts_one κs a r r' s s' p q = one p q
 
-pub less_asks : (κs : _) (a : _) → less.Asked κs a
-less_asks κs a = tt
-
-pub amount_of_one : (κs : _) (a : _) (r r' : _) (s s' : _) → amount_of.Learnt κs a r s → amount_of.Learnt κs a r' s' → r ≡ r'
-amount_of_one κs a r r' s s' p q = one p q
-
-pub amount_of_asks : (κs : _) (a : _) → amount_of.Asked κs a
-amount_of_asks κs a = tt
-
-pub times_one : (κs : _) (a : _) (r r' : _) (s s' : _) → times.Learnt κs a r s → times.Learnt κs a r' s' → r ≡ r'
-times_one κs a r r' s s' p q = one p q
-
-pub times_asks : (κs : _) (x : Amount) (u : ℕ) → Small x.0 → u ≤ max_q → times.Asked κs (x, (u, tt))
-times_asks κs x u f g = small_times w64 x.0 u (omega arith) f g
-
-pub count_of_one : (κs : _) (a : _) (r r' : _) (s s' : _) → count_of.Learnt κs a r s → count_of.Learnt κs a r' s' → r ≡ r'
-count_of_one κs a r r' s s' p q = one p q
-
-pub count_of_asks : (κs : _) (x : Thread) → RowOk x → count_of.Asked κs (x.e, tt)
-count_of_asks κs x g = g.e_whole
+pub parts_asks : (κs : _) (a : _) → parts.Asked κs a
+parts_asks κs a = tt
 
 pub scaled_one : (κs : _) (a : _) (r r' : _) (s s' : _) → scaled.Learnt κs a r s → scaled.Learnt κs a r' s' → r ≡ r'
 scaled_one κs a r r' s s' p q = one p q
@@ -149,11 +129,15 @@ earlier_one κs a r r' s s' p q = one p q
 pub earlier_asks : (κs : _) (x : Thread) (y : Thread) → RowOk x → RowOk y → earlier.Asked κs (deadline_of x, (deadline_of y, tt))
 earlier_asks κs x y f g = (parted f, parted g)
 
-pub leads_one : (κs : _) (a : _) (r r' : _) (s s' : _) → leads.Learnt κs a r s → leads.Learnt κs a r' s' → r ≡ r'
-leads_one κs a r r' s s' p q = one p q
+pub closer_one : (κs : _) (a : _) (r r' : _) (s s' : _) → closer.Learnt κs a r s → closer.Learnt κs a r' s' → r ≡ r'
+closer_one κs a r r' s s' p q = one p q
 
-pub leads_asks : (κs : _) (x : Thread) (y : Thread) (b : _) → RowOk x → RowOk y → leads.Asked κs (deadline_of x, (deadline_of y, (b, tt)))
-leads_asks κs x y b f g = (parted f, λ _. parted g)
+pub closer_asks : (κs : _) (xs : List Thread) (b i : ℕ) → RowOk (at xs b) → RowOk (at xs i) → closer.Asked κs (Some (leading xs b), (leading xs i, tt))
+closer_asks κs xs b i f g = (parted g, parted f)
+
+-- .. and where there is none so far
+pub closer_asks_first : (κs : _) (xs : List Thread) (i : ℕ) → RowOk (at xs i) → closer.Asked κs (None, (leading xs i, tt))
+closer_asks_first κs xs i g = (parted g, tt)
 
 pub lighter_one : (κs : _) (a : _) (r r' : _) (s s' : _) → lighter.Learnt κs a r s → lighter.Learnt κs a r' s' → r ≡ r'
 lighter_one κs a r r' s s' p q = one p q

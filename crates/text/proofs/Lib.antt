@@ -1,3 +1,1 @@
 pub mod Chain
-pub mod Signs
-pub mod Broad

@@ -38,6 +38,12 @@ pub account_parts : (a t : ℕ) (c : Stretch) (n : ℕ) (z : ℤ) (h : How)
 unfolding bytes line how_text
 account_parts a t c n z h = simp append_assoc
 
+pub word_length : (h : How) → length (word_of h) ≡ 4
+unfolding bytes
+word_length Over = refl
+word_length Idle = refl
+word_length Open = refl
+
 how_length : (h : How) → length (how_text h) ≡ 5
 unfolding bytes how_text
 how_length Over = refl

@@ -1,4 +1,5 @@
 pub mod Put
+pub mod Line
 pub mod Room
 pub mod Digits
 pub mod Lines

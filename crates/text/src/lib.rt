@@ -1,13 +1,13 @@
 // Lines of the listing, as bytes in a lent slice. Each public function puts its line into out from
 // `at` on and answers the index after it; where out has fewer than LONGEST bytes from `at` on, it
-// writes nothing and answers `at`. The others are given room, and answer the index after their text.
-#![tactic(auto)]
+// writes nothing and answers `at`. The methods of a line are given room.
+#![tactic(auto, unfolding(crate::specs::Put::put_to, crate::specs::Put::put_out))]
 
-ghost use Rattle.std.specs.Prelude.{◌≡◌, not, [], ◌∷◌, ◌+◌, ◌<◌, ◌≤◌, leb, nat_abs, length};
-ghost use Rattle.std.specs.Int.Signed.{non_neg};
+ghost use Rattle.std.specs.Prelude.{◌≡◌, [], ◌∷◌, ◌+◌, ◌<◌, ◌≤◌, leb, length};
 ghost use Rattle.rules.specs.Listing as listing;
 ghost use Rattle.rules.specs.Listing.{decimal, signed, grant_line, idle_line, refusal_line, end_line};
-ghost use Rattle.text.specs.Put.{Put, put_out, put_to, longest, ended, pair, four, eight};
+ghost use Rattle.text.specs.Put.{put_out, put_to, longest, ended, pair, four, eight};
+ghost use Rattle.text.specs.Line.{HasRoom, Added};
 
 pub mod report;
 
@@ -16,183 +16,163 @@ use quantities::Amount;
 // No line is longer.
 pub const LONGEST: usize = 64;
 
-// Whether a slice of this length has room for a line from `at` on.
-fn has_room(length: usize, at: usize) -> bool
-    ensures { result ≡ leb (at + longest) length }
-{
-    at <= length && length - at >= LONGEST
-}
-
-fn put_byte(out: &mut [u8], at: usize, b: u8) -> usize
-    requires { at + 1 ≤ length out.old }
-    ensures { Put out.old at (b ∷ []) out.new result }
-{
-    out[at] = b;
-    at + 1
-}
-
-fn put_bytes(out: &mut [u8], at: usize, text: &[u8]) -> usize
-    requires { at + length text.now ≤ length out.old }
-    ensures { Put out.old at text.now out.new result }
-{
-    let mut k = at;
-    let mut i: usize = 0;
-    while i < text.len() {
-        out[k] = text[i];
-        k += 1;
-        i += 1;
-    }
-    k
-}
-
 // The digits of a number below 100, below 10,000 and below 100,000,000, with zeros in front.
-fn put_pair(out: &mut [u8], at: usize, n: u32) -> usize
-    requires { (n < 100) × (at + 2 ≤ length out.old) }
-    ensures { Put out.old at (pair n) out.new result }
+fn pair(n: u32) -> [u8; 2]
+    requires { n < 100 }
+    ensures { result ≡ pair n }
 {
-    out[at] = (48 + n / 10) as u8;
-    out[at + 1] = (48 + n % 10) as u8;
-    at + 2
+    [b'0' + (n / 10) as u8, b'0' + (n % 10) as u8]
 }
 
-fn put_four(out: &mut [u8], at: usize, n: u32) -> usize
-    requires { (n < 10000) × (at + 4 ≤ length out.old) }
-    ensures { Put out.old at (four n) out.new result }
+fn four(n: u32) -> [u8; 4]
+    requires { n < 10000 }
+    ensures { result ≡ four n }
 {
-    let k = put_pair(out, at, n / 100);
-    put_pair(out, k, n % 100)
+    let [a, b] = pair(n / 100);
+    let [c, d] = pair(n % 100);
+    [a, b, c, d]
 }
 
-fn put_eight(out: &mut [u8], at: usize, n: u32) -> usize
-    requires { (n < 100000000) × (at + 8 ≤ length out.old) }
-    ensures { Put out.old at (eight n) out.new result }
+// Few numbers are so long that it is called.
+#[inline(never)]
+fn eight(n: u32) -> [u8; 8]
+    requires { n < 100000000 }
+    ensures { result ≡ eight n }
 {
-    let k = put_four(out, at, n / 10000);
-    put_four(out, k, n % 10000)
+    let [a, b, c, d] = four(n / 10_000);
+    let [e, f, g, h] = four(n % 10_000);
+    [a, b, c, d, e, f, g, h]
 }
 
-// The same numbers without zeros in front.
-fn put_below_100(out: &mut [u8], at: usize, n: u32) -> usize
-    requires { (n < 100) × (at + length (decimal n) ≤ length out.old) }
-    ensures { Put out.old at (decimal n) out.new result }
-{
-    if n < 10 {
-        return put_byte(out, at, (48 + n) as u8);
+// A line in the making: the lent slice, and where the next byte goes.
+#[derive(Drop)]
+struct Line<'a> {
+    out: &'a mut [u8],
+    at: usize,
+}
+
+impl Line<'_> {
+    fn has_room(&self, room: usize) -> bool
+        ensures { result ≡ leb (self.now.at + room) (length self.now.out.now) }
+    {
+        self.at <= self.out.len() && self.out.len() - self.at >= room
     }
-    put_pair(out, at, n)
-}
 
-fn put_below_10000(out: &mut [u8], at: usize, n: u32) -> usize
-    requires { (n < 10000) × (at + length (decimal n) ≤ length out.old) }
-    ensures { Put out.old at (decimal n) out.new result }
-{
-    if n < 100 {
-        return put_below_100(out, at, n);
+    fn byte(&mut self, b: u8)
+        requires { HasRoom self.old 1 }
+        ensures { Added self.old self.new (b ∷ []) }
+    {
+        self.out[self.at] = b;
+        self.at += 1;
     }
-    let k = put_below_100(out, at, n / 100);
-    put_pair(out, k, n % 100)
-}
 
-fn put_small(out: &mut [u8], at: usize, n: u32) -> usize
-    requires { (n < 100000000) × (at + length (decimal n) ≤ length out.old) }
-    ensures { Put out.old at (decimal n) out.new result }
-{
-    if n < 10000 {
-        return put_below_10000(out, at, n);
+    fn bytes(&mut self, text: &[u8])
+        requires { HasRoom self.old (length text.now) }
+        ensures { Added self.old self.new text.now }
+    {
+        let end = self.at + text.len();
+        self.out[self.at..end].copy_from_slice(text);
+        self.at = end;
     }
-    let k = put_below_10000(out, at, n / 10000);
-    put_four(out, k, n % 10000)
-}
 
-// What is left of any number without its last eight digits.
-fn put_high(out: &mut [u8], at: usize, n: u64) -> usize
-    requires { (n < 1000000000000) × (at + length (decimal n) ≤ length out.old) }
-    ensures { Put out.old at (decimal n) out.new result }
-{
-    if n < 100000000 {
-        return put_small(out, at, n as u32);
+    // A number below 100, below 10,000 and below 100,000,000 in decimal.
+    fn below_100(&mut self, n: u32)
+        requires { (n < 100) × HasRoom self.old (length (decimal n)) }
+        ensures { Added self.old self.new (decimal n) }
+    {
+        if n < 10 {
+            self.byte(b'0' + n as u8);
+        } else {
+            self.bytes(&pair(n));
+        }
     }
-    let k = put_below_10000(out, at, (n / 100000000) as u32);
-    put_eight(out, k, (n % 100000000) as u32)
-}
 
-// Any number in decimal.
-fn put_decimal(out: &mut [u8], at: usize, n: u64) -> usize
-    requires { at + length (decimal n) ≤ length out.old }
-    ensures { Put out.old at (decimal n) out.new result }
-{
-    if n < 100000000 {
-        return put_small(out, at, n as u32);
+    // Inlined, as the listing writes five numbers a tick.
+    #[inline(always)]
+    fn below_10000(&mut self, n: u32)
+        requires { (n < 10000) × HasRoom self.old (length (decimal n)) }
+        ensures { Added self.old self.new (decimal n) }
+    {
+        if n < 100 {
+            self.below_100(n);
+        } else {
+            self.below_100(n / 100);
+            self.bytes(&pair(n % 100));
+        }
     }
-    let k = put_high(out, at, n / 100000000);
-    put_eight(out, k, (n % 100000000) as u32)
-}
 
-fn is_negative(x: Amount) -> bool
-    ensures { result ≡ not (non_neg x.0) }
-{
-    x.0 < 0
-}
+    fn below_100000000(&mut self, n: u32)
+        requires { (n < 100000000) × HasRoom self.old (length (decimal n)) }
+        ensures { Added self.old self.new (decimal n) }
+    {
+        if n < 10_000 {
+            self.below_10000(n);
+        } else {
+            self.below_10000(n / 10_000);
+            self.bytes(&four(n % 10_000));
+        }
+    }
 
-// An amount without its sign.
-fn magnitude(x: Amount) -> u64
-    ensures { result ≡ nat_abs x.0 }
-{
-    if x.0 < 0 {
-        let below = (-1 - x.0) as u64;
-        below + 1
-    } else {
-        x.0 as u64
+    // Any number: what stands before its last eight digits, and those.
+    fn decimal(&mut self, n: u64)
+        requires { HasRoom self.old (length (decimal n)) }
+        ensures { Added self.old self.new (decimal n) }
+    {
+        if n < 100_000_000 {
+            self.below_100000000(n as u32);
+        } else {
+            self.decimal(n / 100_000_000);
+            self.bytes(&eight((n % 100_000_000) as u32));
+        }
+    }
+
+    fn signed(&mut self, x: Amount)
+        requires { HasRoom self.old (length (signed x.0)) }
+        ensures { Added self.old self.new (signed x.0) }
+    {
+        if x.0 < 0 {
+            self.byte(b'-');
+        }
+        self.decimal(x.0.unsigned_abs());
+    }
+
+    // A number and the byte after it.
+    fn field(&mut self, n: u64, end: u8)
+        requires { HasRoom self.old (length (ended (decimal n) end)) }
+        ensures { Added self.old self.new (ended (decimal n) end) }
+    {
+        self.decimal(n);
+        self.byte(end);
+    }
+
+    // An amount and the byte after it.
+    fn amount(&mut self, x: Amount, end: u8)
+        requires { HasRoom self.old (length (ended (signed x.0) end)) }
+        ensures { Added self.old self.new (ended (signed x.0) end) }
+    {
+        self.signed(x);
+        self.byte(end);
     }
 }
 
-fn put_signed(out: &mut [u8], at: usize, x: Amount) -> usize
-    requires { at + length (signed x.0) ≤ length out.old }
-    ensures { Put out.old at (signed x.0) out.new result }
+// A line that is a text as it stands.
+fn whole(out: &mut [u8], at: usize, text: &[u8]) -> usize
+    requires { length text.now ≤ longest }
+    ensures { (result ≡ put_to out.old at text.now) × (out.new ≡ put_out out.old at text.now) }
 {
-    let n = magnitude(x);
-    if is_negative(x) {
-        let k = put_byte(out, at, b'-');
-        return put_decimal(out, k, n);
+    let mut line = Line { out, at };
+    if !line.has_room(LONGEST) {
+        return at;
     }
-    put_decimal(out, at, n)
-}
-
-// A number and the byte after it.
-fn put_field(out: &mut [u8], at: usize, n: u64, end: u8) -> usize
-    requires { at + length (ended (decimal n) end) ≤ length out.old }
-    ensures { Put out.old at (ended (decimal n) end) out.new result }
-{
-    let k = put_decimal(out, at, n);
-    put_byte(out, k, end)
-}
-
-// The number of a thread or of an application, and a space.
-fn put_number(out: &mut [u8], at: usize, n: u16) -> usize
-    requires { at + length (ended (decimal n) 32) ≤ length out.old }
-    ensures { Put out.old at (ended (decimal n) 32) out.new result }
-{
-    let k = put_small(out, at, n as u32);
-    put_byte(out, k, b' ')
-}
-
-// An amount and the byte after it.
-fn put_amount(out: &mut [u8], at: usize, x: Amount, end: u8) -> usize
-    requires { at + length (ended (signed x.0) end) ≤ length out.old }
-    ensures { Put out.old at (ended (signed x.0) end) out.new result }
-{
-    let k = put_signed(out, at, x);
-    put_byte(out, k, end)
+    line.bytes(text);
+    line.at
 }
 
 // The heading line.
 pub fn heading(out: &mut [u8], at: usize) -> usize
     ensures { (result ≡ put_to out.old at listing.heading) × (out.new ≡ put_out out.old at listing.heading) }
 {
-    if !has_room(out.len(), at) {
-        return at;
-    }
-    put_bytes(out, at, b"tick thread app deadline virtual\n")
+    whole(out, at, b"tick thread app deadline virtual\n")
 }
 
 // The line of a granted tick.
@@ -207,47 +187,55 @@ pub fn granted(
 ) -> usize
     ensures { (result ≡ put_to out.old at (grant_line tick thread app e.0 w.0)) × (out.new ≡ put_out out.old at (grant_line tick thread app e.0 w.0)) }
 {
-    if !has_room(out.len(), at) {
+    let mut line = Line { out, at };
+    if !line.has_room(LONGEST) {
         return at;
     }
-    let k = put_field(out, at, tick as u64, b' ');
-    let k = put_number(out, k, thread);
-    let k = put_number(out, k, app as u16);
-    let k = put_amount(out, k, e, b' ');
-    put_amount(out, k, w, b'\n')
+    line.field(tick as u64, b' ');
+    line.field(thread as u64, b' ');
+    line.field(app as u64, b' ');
+    line.amount(e, b' ');
+    line.amount(w, b'\n');
+    line.at
 }
 
 // The line of an idle tick.
 pub fn idle(out: &mut [u8], at: usize, tick: u32) -> usize
     ensures { (result ≡ put_to out.old at (idle_line tick)) × (out.new ≡ put_out out.old at (idle_line tick)) }
 {
-    if !has_room(out.len(), at) {
+    let mut line = Line { out, at };
+    if !line.has_room(LONGEST) {
         return at;
     }
-    let k = put_decimal(out, at, tick as u64);
-    put_bytes(out, k, b" - - - -\n")
+    line.decimal(tick as u64);
+    line.bytes(b" - - - -\n");
+    line.at
 }
 
 // The refusal n at the byte b of the input.
 pub fn refusal(out: &mut [u8], at: usize, n: u8, b: u64) -> usize
     ensures { (result ≡ put_to out.old at (refusal_line n b)) × (out.new ≡ put_out out.old at (refusal_line n b)) }
 {
-    if !has_room(out.len(), at) {
+    let mut line = Line { out, at };
+    if !line.has_room(LONGEST) {
         return at;
     }
-    let k = put_bytes(out, at, b"refused ");
-    let k = put_decimal(out, k, n as u64);
-    let k = put_bytes(out, k, b" at ");
-    put_field(out, k, b, b'\n')
+    line.bytes(b"refused ");
+    line.decimal(n as u64);
+    line.bytes(b" at ");
+    line.field(b, b'\n');
+    line.at
 }
 
 // The end of the input, at the clock t.
 pub fn end(out: &mut [u8], at: usize, t: u32) -> usize
     ensures { (result ≡ put_to out.old at (end_line t)) × (out.new ≡ put_out out.old at (end_line t)) }
 {
-    if !has_room(out.len(), at) {
+    let mut line = Line { out, at };
+    if !line.has_room(LONGEST) {
         return at;
     }
-    let k = put_bytes(out, at, b"end ");
-    put_field(out, k, t as u64, b'\n')
+    line.bytes(b"end ");
+    line.field(t as u64, b'\n');
+    line.at
 }

@@ -1,12 +1,15 @@
 // Lines of the report: its heading, and the line of a stretch, which needs more room than a line of
 // the listing.
-ghost use Rattle.std.specs.Prelude.{◌≡◌, ◌+◌, ◌≤◌, leb, length};
-ghost use Rattle.rules.specs.Report.{report_heading};
-ghost use Rattle.text.specs.Put.{Put, put_out, put_to};
-ghost use Rattle.text.specs.Wide.{wide, wide_out, wide_to};
-ghost use Rattle.text.specs.Accounts.{span_text, sums_text, how_text, account_line};
+#![tactic(auto, unfolding(crate::specs::Wide::wide_to, crate::specs::Wide::wide_out))]
 
-use crate::{has_room, put_amount, put_bytes, put_field, put_number};
+ghost use Rattle.std.specs.Prelude.{◌≡◌, length};
+ghost use Rattle.rules.specs.Report.{report_heading};
+ghost use Rattle.text.specs.Put.{put_out, put_to};
+ghost use Rattle.text.specs.Line.{HasRoom, Added};
+ghost use Rattle.text.specs.Wide.{wide_out, wide_to};
+ghost use Rattle.text.specs.Accounts.{word_of, span_text, sums_text, account_line};
+
+use crate::{Line, whole};
 use quantities::{Amount, Moment, Stretch};
 
 // No line of a stretch is longer.
@@ -20,42 +23,38 @@ pub enum How {
     Open,
 }
 
-// Whether a slice of this length has room for the line of a stretch from `at` on.
-fn has_wide(length: usize, at: usize) -> bool
-    ensures { result ≡ leb (at + wide) length }
-{
-    at <= length && length - at >= WIDE
+impl How {
+    // The last word of its line.
+    fn word(self) -> &'static [u8]
+        ensures { result.now ≡ word_of self }
+    {
+        match self {
+            How::Over => b"over",
+            How::Idle => b"idle",
+            How::Open => b"open",
+        }
+    }
 }
 
-// The application, and the moments between which the stretch lies.
-fn put_span(out: &mut [u8], at: usize, app: u16, since: Moment, until: Moment) -> usize
-    requires { at + length (span_text app since.0 until.0) ≤ length out.old }
-    ensures { Put out.old at (span_text app since.0 until.0) out.new result }
-{
-    let k = put_number(out, at, app);
-    let k = put_field(out, k, since.0 as u64, b' ');
-    put_field(out, k, until.0 as u64, b' ')
-}
+impl Line<'_> {
+    // The application, and the moments between which the stretch lies.
+    fn span(&mut self, app: u16, since: Moment, until: Moment)
+        requires { HasRoom self.old (length (span_text app since.0 until.0)) }
+        ensures { Added self.old self.new (span_text app since.0 until.0) }
+    {
+        self.field(app as u64, b' ');
+        self.field(since.0 as u64, b' ');
+        self.field(until.0 as u64, b' ');
+    }
 
-// What was lost, share × elapsed, and the sum.
-fn put_sums(out: &mut [u8], at: usize, lost: Amount, share: u64, sum: Amount) -> usize
-    requires { at + length (sums_text lost.0 share sum.0) ≤ length out.old }
-    ensures { Put out.old at (sums_text lost.0 share sum.0) out.new result }
-{
-    let k = put_amount(out, at, lost, b' ');
-    let k = put_field(out, k, share, b' ');
-    put_amount(out, k, sum, b' ')
-}
-
-// The last word of a line.
-fn put_how(out: &mut [u8], at: usize, how: How) -> usize
-    requires { at + 5 ≤ length out.old }
-    ensures { Put out.old at (how_text how) out.new result }
-{
-    match how {
-        How::Over => put_bytes(out, at, b"over\n"),
-        How::Idle => put_bytes(out, at, b"idle\n"),
-        How::Open => put_bytes(out, at, b"open\n"),
+    // What was lost, share × elapsed, and the sum.
+    fn sums(&mut self, lost: Amount, share: u64, sum: Amount)
+        requires { HasRoom self.old (length (sums_text lost.0 share sum.0)) }
+        ensures { Added self.old self.new (sums_text lost.0 share sum.0) }
+    {
+        self.amount(lost, b' ');
+        self.field(share, b' ');
+        self.amount(sum, b' ');
     }
 }
 
@@ -63,10 +62,7 @@ fn put_how(out: &mut [u8], at: usize, how: How) -> usize
 pub fn report_heading(out: &mut [u8], at: usize) -> usize
     ensures { (result ≡ put_to out.old at report_heading) × (out.new ≡ put_out out.old at report_heading) }
 {
-    if !has_room(out.len(), at) {
-        return at;
-    }
-    put_bytes(out, at, b"app from to granted lost share sum end\n")
+    whole(out, at, b"app from to granted lost share sum end\n")
 }
 
 // The line of the stretch c of an application up to the moment `until`, with share × elapsed and the
@@ -83,11 +79,14 @@ pub fn stretch(
 ) -> usize
     ensures { (result ≡ wide_to out.old at (account_line app until.0 c share sum.0 how)) × (out.new ≡ wide_out out.old at (account_line app until.0 c share sum.0 how)) }
 {
-    if !has_wide(out.len(), at) {
+    let mut line = Line { out, at };
+    if !line.has_room(WIDE) {
         return at;
     }
-    let k = put_span(out, at, app, c.since, until);
-    let k = put_field(out, k, c.granted as u64, b' ');
-    let k = put_sums(out, k, c.lost, share, sum);
-    put_how(out, k, how)
+    line.span(app, c.since, until);
+    line.field(c.granted as u64, b' ');
+    line.sums(c.lost, share, sum);
+    line.bytes(how.word());
+    line.byte(b'\n');
+    line.at
 }

@@ -1,38 +1,29 @@
 // One thread by value, for the modules beside this one alone.
-ghost use Rattle.std.specs.Prelude.{◌≡◌, cond, ◌≤◌};
+ghost use Rattle.std.specs.Prelude.{◌≡◌, cond, ◌≤◌, IfSome};
 ghost use Rattle.integers.specs.Parts.{Small};
-ghost use Rattle.rules.specs.Limits.{max_q, nobody};
+ghost use Rattle.rules.specs.Limits.{max_q};
 ghost use Rattle.rules.specs.Threads.{is_inactive, is_contending, active, idle, is_earlier, loses};
 ghost use Rattle.rules.specs.Leaving.{leave};
 ghost use Rattle.rules.specs.Fitting.{fit};
 ghost use Rattle.promises.specs.Sound.{RowOk};
 ghost use Rattle.promises.specs.Item3.{deadline_of, compare_parts};
 ghost use Rattle.promises.specs.Remainders.{Parted};
-ghost use Rattle.promises.specs.Tables.{leads_of};
+ghost use Rattle.promises.specs.Tables.{closer_of};
 
-use crate::amounts::{add, amount_of, count_of, less, scaled, sub};
-use quantities::{Amount, Deadline, Moment, Order, Phase, Table, Thread};
+use crate::amounts::scaled;
+use quantities::{Amount, Deadline, Earliest, Moment, Phase, Thread};
+use std::cmp::Ordering;
 
 pub fn inactive(t: Thread) -> bool
     ensures { result ≡ is_inactive t.phase }
 {
-    let p = t.phase;
-    match p {
-        Phase::Inactive => true,
-        Phase::Contending => false,
-        Phase::NonContending => false, // active, though it has no job
-    }
+    t.phase == Phase::Inactive
 }
 
 pub fn contends(t: Thread) -> bool
     ensures { result ≡ is_contending t.phase }
 {
-    let p = t.phase;
-    match p {
-        Phase::Inactive => false,
-        Phase::Contending => true,
-        Phase::NonContending => false,
-    }
+    t.phase == Phase::Contending
 }
 
 pub fn is_active(t: Thread) -> bool
@@ -45,10 +36,7 @@ pub fn is_active(t: Thread) -> bool
 pub fn spare(t: Thread) -> u32
     ensures { result ≡ cond (is_inactive t.phase) t.share 0 }
 {
-    if inactive(t) {
-        return t.share;
-    }
-    0
+    if inactive(t) { t.share } else { 0 }
 }
 
 // The thread, inactive.
@@ -56,13 +44,10 @@ pub fn at_rest(t: Thread) -> Thread
     ensures { result ≡ idle t }
 {
     Thread {
-        app: t.app,
         phase: Phase::Inactive,
-        share: t.share,
-        period: t.period,
-        jobs: t.jobs,
         w: Amount(0),
         e: Amount(0),
+        ..t
     }
 }
 
@@ -72,18 +57,10 @@ pub fn left(t: Thread, now: Moment) -> Thread
     requires { t.share ≤ max_q }
     ensures { result ≡ leave now.0 t }
 {
-    let p = t.phase;
-    match p {
-        Phase::Inactive => t,
-        Phase::Contending => t,
-        Phase::NonContending => {
-            if less(scaled(t.share, now), t.w) {
-                t
-            } else {
-                at_rest(t)
-            }
-        }
+    if t.phase != Phase::NonContending || scaled(t.share, now) < t.w {
+        return t;
     }
+    at_rest(t)
 }
 
 // Step 2 for one thread, unless the moment is closed.
@@ -91,10 +68,7 @@ pub fn left_unless(closed: bool, t: Thread, now: Moment) -> Thread
     requires { t.share ≤ max_q }
     ensures { result ≡ cond closed t (leave now.0 t) }
 {
-    if closed {
-        return t;
-    }
-    left(t, now)
+    if closed { t } else { left(t, now) }
 }
 
 // Step 4 for one thread; room is Q − r of its application.
@@ -103,14 +77,9 @@ pub fn fit_one(t: Thread, room: u32) -> Thread
     requires { RowOk t }
     ensures { result ≡ fit room t }
 {
-    if contends(t) {
-        let e = t.e;
-        let w = t.w;
-        if less(sub(e, w), amount_of(room)) {
-            let mut u = t;
-            u.e = add(e, scaled(t.share, Moment(t.period)));
-            return u;
-        }
+    if contends(t) && t.e - t.w < Amount::from(room) {
+        let e = t.e + scaled(t.share, Moment(t.period));
+        return Thread { e, ..t };
     }
     t
 }
@@ -120,7 +89,7 @@ pub fn deadline(t: Thread) -> Deadline
     requires { RowOk t }
     ensures { result ≡ deadline_of t }
 {
-    let e = count_of(t.e);
+    let e = t.e.0 as u64;
     let u = t.share as u64;
     Deadline {
         whole: e / u,
@@ -131,51 +100,32 @@ pub fn deadline(t: Thread) -> Deadline
 
 // How the deadline d stands to o, as fractions: by their whole parts, and only where those are equal
 // by their remainders, each times the other's share.
-pub fn compared(d: Deadline, o: Deadline) -> Order
+pub fn compared(d: Deadline, o: Deadline) -> Ordering
     requires { Parted d × Parted o }
     ensures { result ≡ compare_parts d o }
 {
-    if d.whole < o.whole {
-        return Order::Earlier;
+    match d.whole.cmp(&o.whole) {
+        Ordering::Equal => (d.remainder * o.share).cmp(&(o.remainder * d.share)),
+        unequal => unequal,
     }
-    if o.whole < d.whole {
-        return Order::Later;
-    }
-    let u = d.share;
-    let v = o.share;
-    let p = d.remainder * v;
-    let q = o.remainder * u;
-    if p < q {
-        return Order::Earlier;
-    }
-    if q < p {
-        return Order::Later;
-    }
-    Order::Equal
 }
 
 pub fn earlier(d: Deadline, o: Deadline) -> bool
     requires { Parted d × Parted o }
     ensures { result ≡ is_earlier (compare_parts d o) }
 {
-    let c = compared(d, o);
-    match c {
-        Order::Earlier => true,
-        Order::Equal => false,
-        Order::Later => false,
-    }
+    compared(d, o) == Ordering::Less
 }
 
-// May a thread with the deadline d take the place of b, the earliest so far? b is nobody, or its
-// deadline, o, is later.
-pub fn leads(d: Deadline, o: Deadline, b: usize) -> bool
-    requires { Parted d × ((b ≡ nobody → ⊥) → Parted o) }
-    ensures { result ≡ leads_of d o b }
+// The earlier of the earliest so far and `it`, which comes after it.
+pub fn closer(so_far: Option<Earliest>, it: Earliest) -> Option<Earliest>
+    requires { Parted it.deadline × IfSome so_far (λ o. Parted o.deadline) }
+    ensures { result ≡ closer_of so_far it }
 {
-    if b == Table::NOBODY {
-        return true;
+    match so_far {
+        Some(o) if !earlier(it.deadline, o.deadline) => so_far,
+        _ => Some(it),
     }
-    earlier(d, o)
 }
 
 // d less of W.
@@ -183,7 +133,5 @@ pub fn lighter(t: Thread, d: Amount) -> Thread
     requires { Small t.w.0 × Small d.0 }
     ensures { result ≡ loses d.0 t }
 {
-    let mut u = t;
-    u.w = sub(t.w, d);
-    u
+    Thread { w: t.w - d, ..t }
 }

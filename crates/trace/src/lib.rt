@@ -2,111 +2,103 @@
 // record says.
 #![tactic(auto)]
 
-ghost use Rattle.std.specs.Prelude.{◌≡◌, ◌+◌, ◌≤◌, ◌<◌, length};
-ghost use Rattle.rules.specs.Records.{Head, RunTo, Arrival, Completion, Drop, frame_of, decoded, le16, le32, moment, sized};
-ghost use Rattle.rules.specs.Records as rule;
+ghost use Rattle.std.specs.Prelude.{◌≡◌, ◌≢◌, length, MatchResult};
+ghost use Rattle.rules.specs.Records.{frame_of, decoded, le16, le32, moment};
+ghost use Rattle.rules.specs.Refusals.{said, CutShort};
 ghost use Rattle.windows.specs.Frames.{AtMost};
+ghost use Rattle.trace.specs.Kinds.{kind_of, body_said};
 
-use quantities::{Decoded, Frame, Moment, Record, Row};
+use quantities::{Frame, Moment, Record, Refusal, Row};
 
-// A byte, with the bound that keeps its sums small.
-fn wide(b: u8) -> u32
-    ensures { (result ≡ b) × (result < 256) }
-{
-    b as u32
+// The kinds of records.
+#[derive(Clone, Copy)]
+enum Kind {
+    Head,
+    Row,
+    Arrival,
+    Completion,
+    RunTo,
+    Drop,
 }
 
-// Two bytes, little-endian.
-fn read16(s: &[u8], at: usize) -> u16
-    requires { at + 2 ≤ length s.now }
-    ensures { result ≡ le16 s.now at }
-{
-    let low = wide(s[at]);
-    let high = wide(s[at + 1]);
-    (low + 256 * high) as u16
-}
+// A kind by its number in a trace; 15.
+impl TryFrom<u16> for Kind {
+    type Error = Refusal;
 
-// Four bytes, little-endian.
-fn read32(s: &[u8], at: usize) -> u32
-    requires { at + 4 ≤ length s.now }
-    ensures { result ≡ le32 s.now at }
-{
-    read16(s, at) as u32 + 65536 * (read16(s, at + 2) as u32)
-}
+    ghost try_from_gives = { λ n r. r ≡ kind_of n };
 
-// What the body of a record of one kind says, where it has that kind's length; 14.
-fn head(b: &[u8]) -> Decoded
-    ensures { result ≡ sized 6 b.now (Head (le16 b.now 0) (le16 b.now 2)) }
-{
-    if b.len() == 4 {
-        return Decoded::Known(Record::Head(read16(b, 0), read16(b, 2)));
+    fn try_from(value: u16) -> Result<Kind, Refusal> {
+        match value {
+            1 => Ok(Kind::Head),
+            2 => Ok(Kind::Row),
+            3 => Ok(Kind::Arrival),
+            4 => Ok(Kind::Completion),
+            5 => Ok(Kind::RunTo),
+            6 => Ok(Kind::Drop),
+            _ => Err(Refusal::UnknownKind),
+        }
     }
-    Decoded::Refused(14)
 }
 
-fn row(b: &[u8]) -> Decoded
-    ensures { result ≡ sized 10 b.now (rule.Row (record { app = le16 b.now 0; share = le16 b.now 2; period = le32 b.now 4 })) }
+// A body of the length N that its kind has; 14.
+fn sized<const N: usize>(b: &[u8]) -> Result<[u8; N], Refusal>
+    ensures { MatchResult result (λ x. x ≡ b.now) (λ e. (length b.now ≢ N) × (e ≡ CutShort)) }
 {
-    if b.len() == 8 {
-        let x = Row {
-            app: read16(b, 0),
-            share: read16(b, 2),
-            period: read32(b, 4),
-        };
-        return Decoded::Known(Record::Row(x));
-    }
-    Decoded::Refused(14)
+    b.try_into().map_err(|_| Refusal::CutShort)
 }
 
-fn arrival(b: &[u8]) -> Decoded
-    ensures { result ≡ sized 8 b.now (Arrival (moment (le32 b.now 0)) (le16 b.now 4)) }
+// The moment and the thread of an event; 14.
+fn event(b: &[u8]) -> Result<(Moment, u16), Refusal>
+    ensures { MatchResult result (λ x. (length b.now ≡ 6) × (x.0 ≡ moment (le32 b.now 0)) × (x.1 ≡ le16 b.now 4)) (λ e. (length b.now ≢ 6) × (e ≡ CutShort)) }
 {
-    if b.len() == 6 {
-        return Decoded::Known(Record::Arrival(Moment(read32(b, 0)), read16(b, 4)));
-    }
-    Decoded::Refused(14)
+    let [m0, m1, m2, m3, i0, i1] = sized::<6>(b)?;
+    Ok((
+        Moment(u32::from_le_bytes([m0, m1, m2, m3])),
+        u16::from_le_bytes([i0, i1]),
+    ))
 }
 
-fn completion(b: &[u8]) -> Decoded
-    ensures { result ≡ sized 8 b.now (Completion (moment (le32 b.now 0)) (le16 b.now 4)) }
-{
-    if b.len() == 6 {
-        return Decoded::Known(Record::Completion(Moment(read32(b, 0)), read16(b, 4)));
+impl Kind {
+    // What a body of this kind says; 14.
+    fn read(self, b: &[u8]) -> Result<Record, Refusal>
+        ensures { said result ≡ body_said self b.now }
+    {
+        match self {
+            Kind::Head => {
+                let [q0, q1, n0, n1] = sized::<4>(b)?;
+                Ok(Record::Head(u16::from_le_bytes([q0, q1]), u16::from_le_bytes([n0, n1])))
+            }
+            Kind::Row => {
+                let [a0, a1, s0, s1, p0, p1, p2, p3] = sized::<8>(b)?;
+                Ok(Record::Row(Row {
+                    app: u16::from_le_bytes([a0, a1]),
+                    share: u16::from_le_bytes([s0, s1]),
+                    period: u32::from_le_bytes([p0, p1, p2, p3]),
+                }))
+            }
+            Kind::Arrival => {
+                let (m, i) = event(b)?;
+                Ok(Record::Arrival(m, i))
+            }
+            Kind::Completion => {
+                let (m, i) = event(b)?;
+                Ok(Record::Completion(m, i))
+            }
+            Kind::RunTo => Ok(Record::RunTo(Moment(u32::from_le_bytes(sized(b)?)))),
+            Kind::Drop => {
+                let (m, i) = event(b)?;
+                Ok(Record::Drop(m, i))
+            }
+        }
     }
-    Decoded::Refused(14)
-}
-
-fn run_to(b: &[u8]) -> Decoded
-    ensures { result ≡ sized 6 b.now (RunTo (moment (le32 b.now 0))) }
-{
-    if b.len() == 4 {
-        return Decoded::Known(Record::RunTo(Moment(read32(b, 0))));
-    }
-    Decoded::Refused(14)
-}
-
-fn drop(b: &[u8]) -> Decoded
-    ensures { result ≡ sized 8 b.now (Drop (moment (le32 b.now 0)) (le16 b.now 4)) }
-{
-    if b.len() == 6 {
-        return Decoded::Known(Record::Drop(Moment(read32(b, 0)), read16(b, 4)));
-    }
-    Decoded::Refused(14)
 }
 
 // What a whole record of this kind with the body b says; 15, 14.
-pub fn decode(kind: u16, b: &[u8]) -> Decoded
-    ensures { result ≡ decoded kind b.now }
+#[tactic(auto, unfolding(rules::specs::Records::decoded))]
+pub fn decode(kind: u16, b: &[u8]) -> Result<Record, Refusal>
+    ensures { said result ≡ decoded kind b.now }
 {
-    match kind {
-        1 => head(b),
-        2 => row(b),
-        3 => arrival(b),
-        4 => completion(b),
-        5 => run_to(b),
-        6 => drop(b),
-        _ => Decoded::Refused(15),
-    }
+    Kind::try_from(kind)?.read(b)
 }
 
 // What stands at the start of the rest s of an input.
@@ -114,18 +106,15 @@ pub fn frame(s: &[u8]) -> Frame
     ensures value { result ≡ frame_of s.now }
     ensures at_most { AtMost result }
 {
-    if s.len() == 0 {
-        return Frame::Ended;
+    match s {
+        [] => Frame::Ended,
+        [l0, l1, k0, k1, ..] => {
+            let n = u16::from_le_bytes([*l0, *l1]) as usize;
+            if n < 2 || s.len() < 2 + n {
+                return Frame::Cut;
+            }
+            Frame::Whole(u16::from_le_bytes([*k0, *k1]), 2 + n)
+        }
+        _ => Frame::Cut,
     }
-    if s.len() < 2 {
-        return Frame::Cut;
-    }
-    let n = read16(s, 0) as usize;
-    if n < 2 {
-        return Frame::Cut;
-    }
-    if s.len() < 2 + n {
-        return Frame::Cut;
-    }
-    Frame::Whole(read16(s, 2), 2 + n)
 }

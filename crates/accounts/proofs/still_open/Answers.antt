@@ -9,4 +9,4 @@ pub all_held-requires : goal.all_held-requires
 all_held-requires c = (kept_lined c.requires.0, omega (arith, c.requires.1))
 
 pub returns-clause-put : goal.returns-clause-put
-returns-clause-put c = put_as (held_open c.args.t c.args.until.0 c.args.cs apps) c.all_held.ensures.put
+returns-clause-put c = put_as (held_open c.args.t.now c.args.until.0 c.args.cs.now apps) c.all_held.ensures.put

@@ -1,15 +1,15 @@
-use Rattle.std.proofs.Common.{◌∙◌}
+use Rattle.std.proofs.Common.{ap, ◌∙◌}
+use Rattle.rules.specs.Refusals.{number}
 use Rattle.rules.specs.Listing.{refusal_line}
 use Rattle.text.specs.Room.{put_room}
-use Rattle.listing.specs.Way.{acted_at}
+use Rattle.windows.specs.Advance.{finished}
+use Rattle.promises.specs.Numbers.{number_as}
+use Rattle.listing.specs.Way.{turn_at}
 use Rattle.listing.proofs.stop.Goals as goal
 
-pub returns-clause-value : goal.returns-clause-value
-returns-clause-value c =
-    let s = c.args in
-    acted_at _ _ _ _ _ _ (c.refusal-to.ensures.0 ∙ (put_room s.out.now s.used (refusal_line s.n s.p.place) c.requires).0) c.done_with.ensures
-
-pub returns-clause-out_after : goal.returns-clause-out_after
-returns-clause-out_after c =
-    let s = c.args in
-    c.refusal-to.ensures.1 ∙ (put_room s.out.now s.used (refusal_line s.n s.p.place) c.requires).1
+pub returns : goal.returns
+returns c =
+    let x = c.args.turn.now in
+    let f = put_room c.args.out.now x.written (refusal_line (number c.args.e) x.progress.place) c.requires in
+    let r = rw (number_as c.args.e) at c.refusal-turn.ensures in
+    record { value = ap (λ to. turn_at x.taken to (finished x.progress)) (r.0 ∙ f.0); out_after = r.1 ∙ f.1 }

@@ -1,5 +1,8 @@
-use Rattle.report.specs.Way.{stage_then}
+use Rattle.report.specs.Way.{stage_then, stage_went}
 use Rattle.report.proofs.advance.Goals as goal
 
-pub loop-going-preserved : goal.loop-going-preserved
-loop-going-preserved c = stage_then c.loop-going.invariant c.act-x.ensures
+pub loop-preserved : goal.loop-preserved
+loop-preserved c = stage_then c.loop.invariant c.act.ensures
+
+pub returns : goal.returns
+returns c = stage_went c.loop.invariant c.act.ensures c.loop-test.false

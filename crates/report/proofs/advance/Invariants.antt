@@ -1,10 +1,9 @@
-use Rattle.std.proofs.Common.{◌+◌, ◌-◌, length}
-use Rattle.report.specs.Way.{acted_as, Stage, turns}
+use Rattle.report.specs.Way.{Stage, left_of}
 use Rattle.report.proofs.advance.Given as goal
 
 -- the parts of the call so far
-abbrev pub invariant-loop-going : goal.invariant-loop-going
-invariant-loop-going l = Stage l.last l.w l.initial.out l.initial.q l.out (acted_as l.going l.at l.used l.q)
+abbrev pub invariant-loop : goal.invariant-loop
+invariant-loop l = Stage l.last l.w l.initial.out l.initial.turn.tally l.out l.turn
 
-abbrev pub decreases-loop-going : goal.decreases-loop-going
-decreases-loop-going l = turns l.going (length l.initial.out - l.used + (length l.w - l.at))
+abbrev pub decreases-loop : goal.decreases-loop
+decreases-loop l = left_of l.w l.initial.out l.turn

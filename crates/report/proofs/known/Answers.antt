@@ -1,60 +1,55 @@
-use Rattle.std.proofs.Common.{true, false, ◌≤◌, ◌<◌, sym, ap, ◌∙◌, subst, arith}
-use Rattle.rules.specs.Reading.{ticks_due}
-use Rattle.windows.specs.Advance.{farthest}
+use Rattle.std.proofs.Common.{sym, arith}
 use Rattle.windows.specs.Readings.{given_reading}
-use Rattle.report.specs.Tallies.{Tally, GivenTally}
 use Rattle.report.specs.Given.{tally_reading}
 use Rattle.report.specs.Keeps.{tally_kept}
-use Rattle.report.specs.Along.{Along}
-use Rattle.report.specs.Way.{acted_as, ActedOn, same_room, along_acts}
+use Rattle.report.specs.Way.{same_room, along_acts}
 use Rattle.report.specs.Acts.{ticks_events, ticks_fit, ticks_given, ticks_along, ticks_on, ticks_all}
 use Rattle.report.proofs.known.Goals as goal
-use Rattle.report.proofs.known.Goals.{After-reached-y}
+use Rattle.report.proofs.known.Goals.{then-d-gt0+else-out-turn-lt-ROOM, else-d-gt0}
 
-pub ticks-x-requires : goal.ticks-x-requires
-ticks-x-requires c =
+pub ticks-turn-requires : goal.ticks-turn-requires
+ticks-turn-requires c =
     let o = c.requires.0 in
-    let due = sym c.due-d.ensures in
-    let some : 0 < c.due-d.result = omega (arith, c.if-d-eq0.false) in (
+    let due = sym c.due-d.ensures in (
       (given_reading (tally_reading o.given)).given,
-      tally_kept o.given (ticks_events o c.args.n c.args.e c.requires.1 _ due some),
-      ticks_fit o c.args.n c.args.e c.requires.1 _ due some,
+      tally_kept o.given (ticks_events o c.args.n c.args.e c.requires.1 _ due c.if-d-gt0.true),
+      ticks_fit o c.args.n c.args.e c.requires.1 _ due c.if-d-gt0.true,
       omega (arith, o.room),
     )
 
--- the ticks that were told
-went : (c : goal.After-reached-y) → Along false c.args.w.now c.args.out.now c.args.at c.args.used c.args.p c.ticks-x.new.out c.args.at c.ticks-x.result.used c.reached-y.result
-went c =
-    let a = c.args in
-    let t = c.ticks-x in
-    subst (λ (q : Tally). Along false a.w.now a.out.now a.at a.used a.p t.new.out a.at t.result.used q) (sym c.reached-y.ensures)
-    (ticks_along c.requires.0 a.n a.e c.requires.1 _ (sym c.due-d.ensures) (omega (arith, c.if-d-eq0.false)) t.ensures)
-
-pub returns-then-out-to-lt-ROOM : goal.returns-then-out-to-lt-ROOM
-returns-then-out-to-lt-ROOM c =
-    let a = c.args in
-    let t = c.ticks-x in
-    subst (λ (q : Tally). ActedOn a.w.now a.out.now a.at a.used a.p t.new.out (acted_as true a.at t.result.used q)) (sym c.reached-y.ensures)
-    (ticks_on c.requires.0 a.n a.e c.requires.1 _ (sym c.due-d.ensures) (omega (arith, c.if-d-eq0.false)) t.ensures (omega (arith, c.if-out-to-lt-ROOM.true, same_room (went (goal.at.returns-then-out-to-lt-ROOM c).After-reached-y))))
-
-pub apply-requires-2 : goal.apply-requires-2
-apply-requires-2 c =
-    let t = c.ticks-x in
-    let y = c.reached-y.ensures in
-    let a = went (goal.at.apply-requires-2 c).After-reached-y in
+pub returns-then-out-turn-lt-ROOM : goal.returns-then-out-turn-lt-ROOM
+returns-then-out-turn-lt-ROOM c =
+    let o = c.requires.0 in
+    let t = c.ticks-turn.ensures in
     let due = sym c.due-d.ensures in
-    let some : 0 < c.due-d.result = omega (arith, c.if-d-eq0.false) in (
-      record {
-        given = subst GivenTally (sym y) (ticks_given c.requires.0 c.args.n c.args.e c.requires.1 _ due some t.ensures);
-        undone = ap (λ (q : Tally). q.done) y;
-        near = subst (λ (q : Tally). q.place ≤ farthest) (sym y) c.requires.0.near;
-        within = c.requires.0.within;
-        room = omega (arith, c.if-out-to-lt-ROOM.false, a.room, same_room a);
-      },
-      c.requires.1,
-      ap (λ (q : Tally). ticks_due q.reading c.args.e) y
-          ∙ ticks_all c.requires.0 c.args.n c.args.e c.requires.1 _ due some t.ensures (omega (arith, c.if-out-to-lt-ROOM.false, a.room, same_room a)),
-    )
+    let a = ticks_along o c.args.n c.args.e c.requires.1 _ due c.if-d-gt0.true t in
+    ticks_on o c.args.n c.args.e c.requires.1 _ due c.if-d-gt0.true t (omega (arith, c.if-out-turn-lt-ROOM.true, same_room a))
+
+pub apply-requires : goal.apply-requires
+apply-requires c =
+    let o = c.requires.0 in
+    let n = c.args.n in
+    let e = c.args.e in
+    let z = c.requires.1 in
+    let due = sym c.due-d.ensures in
+    elim c.if-d-gt0.branch [
+      | then-d-gt0+else-out-turn-lt-ROOM w ↦
+          let t = w.ticks-turn.ensures in
+          let a = ticks_along o n e z _ due w.if-d-gt0.true t in
+          let room = w.if-out-turn-lt-ROOM.false in
+          rw (w.out-is, w.turn-is) (
+            record { given = ticks_given o n e z _ due w.if-d-gt0.true t; undone = o.undone; near = o.near; within = o.within; room = omega (arith, room, a.room, same_room a) },
+            z,
+            ticks_all o n e z _ due w.if-d-gt0.true t (omega (arith, room, a.room, same_room a)),
+          )
+      | else-d-gt0 w ↦ rw (w.out-is, w.turn-is) (o, z, omega (arith, due, w.if-d-gt0.false))
+    ]
 
 pub returns : goal.returns
-returns c = along_acts (went (goal.at.returns c).After-reached-y) c.apply-2.ensures
+returns c =
+    let o = c.requires.0 in
+    elim c.if-d-gt0.branch [
+      | then-d-gt0+else-out-turn-lt-ROOM w ↦
+          along_acts (ticks_along o c.args.n c.args.e c.requires.1 _ (sym c.due-d.ensures) w.if-d-gt0.true w.ticks-turn.ensures) (rw (w.out-is, w.turn-is) at c.apply.ensures)
+      | else-d-gt0 w ↦ rw (w.out-is, w.turn-is) at c.apply.ensures
+    ]

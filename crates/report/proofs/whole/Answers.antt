@@ -1,5 +1,6 @@
-use Rattle.std.proofs.Common.{rules, sym, ap, ◌∙◌}
+use Rattle.std.proofs.Common.{sym, ap, ◌∙◌}
 use Rattle.rules.specs.Records.{decoded}
+use Rattle.rules.specs.Refusals.{said}
 use Rattle.windows.specs.Inputs.{body_part}
 use Rattle.report.specs.Windows.{unknown_brings}
 use Rattle.report.specs.Acts.{stop_on}
@@ -8,12 +9,13 @@ use Rattle.report.proofs.whole.Goals as goal
 pub known-requires : goal.known-requires
 known-requires c =
     let a = c.args in
-    let says = c.decode-d.ensures ∙ ap (decoded a.kind) (body_part a.w.now a.at a.n) in
-    (c.requires.0, record { kind = a.kind; framed = c.requires.1; known = sym says ∙ c.in-Known.is })
+    let says = c.decode.ensures ∙ ap (decoded a.kind) (body_part a.w.now a.turn.now.taken a.n) in
+    (c.requires.0, record { kind = a.kind; framed = c.requires.1; known = sym says ∙ ap said c.in-Ok.is })
 
-pub returns-in-Refused : goal.returns-in-Refused
-returns-in-Refused c =
+pub returns-in-Err : goal.returns-in-Err
+returns-in-Err c =
     let a = c.args in
-    let says = c.decode-d.ensures ∙ ap (decoded a.kind) (body_part a.w.now a.at a.n) in
-    stop_on c.requires.0 _ c.stop.ensures.value c.stop.ensures.out_after (search rules)
-    (unknown_brings a.w.now a.at a.p c.requires.0.undone _ _ c.requires.1.is _ (sym says ∙ c.in-Refused.is))
+    let x = a.turn.now in
+    let says = c.decode.ensures ∙ ap (decoded a.kind) (body_part a.w.now x.taken a.n) in
+    stop_on c.requires.0 c.in-Err.refusal c.stop.ensures.value c.stop.ensures.out_after
+    (unknown_brings a.w.now x.taken x.tally c.requires.0.undone _ _ c.requires.1.is _ (sym says ∙ ap said c.in-Err.is))

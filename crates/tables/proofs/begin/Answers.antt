@@ -1,6 +1,8 @@
-use Rattle.std.proofs.Common.{◌≡◌, sym, ◌∙◌}
+use Rattle.std.proofs.Common.{◌≡◌, sym, ap, ◌∙◌}
+use Rattle.std.proofs.lemmas.Result.{err_from_is_err_and}
 use Rattle.rules.specs.Limits.{usual_period}
 use Rattle.rules.specs.Table.{Table, Done, head_answer, rows_answer, table_answer, opening}
+use Rattle.rules.specs.Refusals.{answer_of}
 use Rattle.promises.specs.Begin.{head_admitted}
 use Rattle.tables.proofs.begin.Goals as goal
 
@@ -9,20 +11,24 @@ admitted : (t : Table) → head_answer t.q t.threads ≡ Done → rows_answer us
 unfolding table_answer
 admitted t h a = rw (h, a)
 
-pub returns-in-Refused : goal.returns-in-Refused
+pub returns-in_err-head : goal.returns-in_err-head
 unfolding opening table_answer
-returns-in-Refused c = rw (c.refused.ensures, sym c.head-h.ensures ∙ c.in-Refused.is)
+returns-in_err-head c =
+    let p = err_from_is_err_and c.from_residual.result c.from_residual.ensures.1 in
+    rw (p.1, p.2, sym c.head.ensures ∙ ap answer_of c.in_err-head.was)
 
-pub rows-a-requires : goal.rows-a-requires
-rows-a-requires c = (head_admitted _ _ (sym c.head-h.ensures ∙ c.in_default.is)).few
+pub rows-requires : goal.rows-requires
+rows-requires c = (head_admitted _ _ (sym c.head.ensures ∙ ap answer_of c.in_ok-head.was)).few
 
-pub returns-in-Refused-a : goal.returns-in-Refused-a
+pub returns-in_err-rows : goal.returns-in_err-rows
 unfolding opening table_answer
-returns-in-Refused-a c = rw (c.refused-in-Refused-a.ensures, sym c.head-h.ensures ∙ c.in_default.is, sym c.rows-a.ensures ∙ c.in-Refused-a.is)
+returns-in_err-rows c =
+    let p = err_from_is_err_and c.from_residual-in_err-rows.result c.from_residual-in_err-rows.ensures.1 in
+    rw (p.1, p.2, sym c.head.ensures ∙ ap answer_of c.in_ok-head.was, sym c.rows.ensures ∙ ap answer_of c.in_err-rows.was)
 
-pub started-s-requires : goal.started-s-requires
-started-s-requires c = admitted c.args.t (sym c.head-h.ensures ∙ c.in_default.is) (sym c.rows-a.ensures ∙ c.in_default-a.is)
+pub started-requires : goal.started-requires
+started-requires c = admitted c.args.t (sym c.head.ensures ∙ ap answer_of c.in_ok-head.was) (sym c.rows.ensures ∙ ap answer_of c.in_ok-rows.was)
 
 pub returns : goal.returns
 unfolding opening
-returns c = rw (c.started-s.ensures, admitted c.args.t (sym c.head-h.ensures ∙ c.in_default.is) (sym c.rows-a.ensures ∙ c.in_default-a.is))
+returns c = rw (c.started.ensures, admitted c.args.t (sym c.head.ensures ∙ ap answer_of c.in_ok-head.was) (sym c.rows.ensures ∙ ap answer_of c.in_ok-rows.was))

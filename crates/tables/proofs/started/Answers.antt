@@ -1,7 +1,7 @@
 use Rattle.std.proofs.Common.{◌≡◌, ◌≤◌, arith, add-one}
-use Rattle.std.proofs.Math.Nat.{le_antisymm}
+use Rattle.std.proofs.lemmas.List.{get_or-take}
 use Rattle.rules.specs.Limits.{max_threads, usual_period}
-use Rattle.rules.specs.Table.{Table, Done, head_answer, rows_answer, table_answer, opened_to, start}
+use Rattle.rules.specs.Table.{Table, Done, head_answer, no_row, rows_answer, table_answer, opened_to, start}
 use Rattle.promises.specs.Begin.{both_done, head_admitted, rows_admitted}
 use Rattle.tables.proofs.started.Goals as goal
 
@@ -13,23 +13,24 @@ admitted t e = both_done _ _ e
 few : (t : Table) → table_answer usual_period t ≡ Done → t.threads ≤ max_threads
 few t e = (head_admitted _ _ (admitted t e).0).few
 
+pub shared_ref_as_front-x-items : goal.shared_ref_as_front-x-items
+shared_ref_as_front-x-items c = few _ c.requires
+
 pub loop-i-init : goal.loop-i-init
 unfolding opened_to
-loop-i-init c = (omega arith, c.no_schedule-s.ensures)
+loop-i-init c = rw c.no_schedule-s.ensures
 
-pub bounds-t-i : goal.bounds-t-i
-bounds-t-i c = omega (arith, few _ c.requires)
-
-pub fresh-u-requires : goal.fresh-u-requires
-fresh-u-requires c = (rows_admitted _ _ _ _ (admitted _ c.requires).1 c.loop-i.i c.loop-i-test.true).app_max
-
-pub bounds-s-i : goal.bounds-s-i
-bounds-s-i c = omega (arith, few _ c.requires)
+pub fresh-requires : goal.fresh-requires
+fresh-requires c =
+    let t = c.args.t.now in
+    rw (get_or-take t.threads t.rows c.loop-i.i no_row (omega arith)) (rows_admitted _ _ _ _ (admitted _ c.requires).1 c.loop-i.i (omega arith)).app_max
 
 pub loop-i-preserved : goal.loop-i-preserved
 unfolding opened_to
-loop-i-preserved c = (omega arith, rw (c.loop-i.invariant.1, c.fresh-u.ensures, add-one))
+loop-i-preserved c =
+    let t = c.args.t.now in
+    rw (c.loop-i.invariant, c.fresh.ensures, get_or-take t.threads t.rows c.loop-i.i no_row (omega arith), add-one)
 
 pub returns : goal.returns
 unfolding start
-returns c = let l = c.loop-i in rw (l.invariant.1, le_antisymm l.invariant.0 c.loop-i-test.false)
+returns c = let h : c.loop-i.i ≡ c.args.t.now.threads = omega arith in rw (c.loop-i.invariant, h)

@@ -1,10 +1,6 @@
 use Rattle.rules.specs.Listing.{bytes, heading}
-use Rattle.text.proofs.Chain.{put, kept}
 use Rattle.text.proofs.heading.Goals as goal
-
-pub returns-then-not-has_room : goal.returns-then-not-has_room
-returns-then-not-has_room c = kept _ _ c.has_room.ensures _ c.if-not-has_room.true
 
 pub returns : goal.returns
 unfolding bytes heading
-returns c = put _ _ c.has_room.ensures c.if-not-has_room.false c.put_bytes.ensures
+returns c = c.whole.ensures

@@ -24,8 +24,8 @@ leaves-requires c = (okay c.requires.0 c.loop-i.i c.loop-i-test.true).share_max
 pub freed-requires : goal.freed-requires
 freed-requires c = okay c.requires.0 c.loop-i.i c.loop-i-test.true
 
-pub rest-y-requires : goal.rest-y-requires
-rest-y-requires c =
+pub rest-used-requires : goal.rest-used-requires
+rest-used-requires c =
     let v = c.loop-i.invariant in
     let h = c.loop-i-test.true in (
       rw c.freed.ensures (left_rests c.requires.0 c.requires.1 v h (sym c.leaves.ensures ∙ c.if-leaves.true)),
@@ -38,9 +38,10 @@ loop-i-preserved c =
     let h = c.loop-i-test.true in
     elim c.if-leaves.branch [
       | then-leaves w ↦
-          rw (w.out-is, w.used-is, w.all-is)
-          (left_goes c.requires.0 c.requires.1 v h (sym c.leaves.ensures ∙ w.if-leaves.true) w.freed.result w.freed.ensures w.rest-y.ensures.put w.rest-y.ensures.activities_value.0 w.rest-y.ensures.activities_value.1)
-      | else-leaves w ↦ rw (w.out-is, w.used-is, w.all-is) (left_stays c.requires.0 c.requires.1 v h (sym c.leaves.ensures ∙ w.if-leaves.false))
+          let e = w.rest-used.ensures in
+          rw (w.out-is, w.used-is, w.cs-is)
+          (left_goes c.requires.0 c.requires.1 v h (sym c.leaves.ensures ∙ w.if-leaves.true) w.freed.result w.freed.ensures e.put e.activities_value e.upper_bound)
+      | else-leaves w ↦ rw (w.out-is, w.used-is, w.cs-is) (left_stays c.requires.0 c.requires.1 v h (sym c.leaves.ensures ∙ w.if-leaves.false))
     ]
 
 pub returns : goal.returns

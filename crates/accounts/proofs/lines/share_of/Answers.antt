@@ -1,17 +1,24 @@
-use Rattle.std.proofs.Common.{◌+◌, refl, arith}
+use Rattle.std.proofs.Common.{refl, ◌∙◌, arith}
 use Rattle.rules.specs.Stretches.{share_to}
-use Rattle.accounts.specs.Lines.{share_more, share_le}
+use Rattle.accounts.specs.Lines.{share_own, share_other, share_fits}
 use Rattle.accounts.proofs.lines.share_of.Goals as goal
+use Rattle.accounts.proofs.lines.share_of.Goals.{then-x-a, else-x-a}
 
-pub loop-i-init : goal.loop-i-init
+pub loop-x-init : goal.loop-x-init
 unfolding share_to
-loop-i-init c = record { in_range = omega arith; so_far = refl }
+loop-x-init c = refl
 
 -- the shares so far are at most all, which are at most Q
 pub overflow_add-sum : goal.overflow_add-sum
 overflow_add-sum c =
-    let i = c.loop-i.i in
-    omega (arith, c.own-sum.ensures, share_more c.args.a c.args.t.rows i, share_le c.args.a c.args.t.rows (i + 1) c.args.t.threads (omega (arith, c.loop-i-test.true)), c.requires.most)
+    let t = c.args.t.now in
+    omega (arith, share_fits c.args.a t.rows t.threads c.loop-x.x-index c.loop-x-test.true c.if-x-a.true, c.requires.most)
 
-pub loop-i-preserved : goal.loop-i-preserved
-loop-i-preserved c = record { in_range = omega arith; so_far = omega (arith, c.own-sum.ensures, share_more c.args.a c.args.t.rows c.loop-i.i) }
+pub loop-x-preserved : goal.loop-x-preserved
+loop-x-preserved c =
+    let t = c.args.t.now in
+    let i = c.loop-x.x-index in
+    elim c.if-x-a.branch [
+      | then-x-a w ↦ omega (arith, w.sum-is, share_own c.args.a t.rows t.threads i c.loop-x-test.true w.if-x-a.true)
+      | else-x-a w ↦ w.sum-is ∙ c.loop-x.invariant ∙ share_other c.args.a t.rows t.threads i c.loop-x-test.true w.if-x-a.false
+    ]

@@ -2,37 +2,43 @@ use Rattle.std.proofs.Common.{ap, arith}
 use Rattle.rules.specs.Threads.{State}
 use Rattle.promises.specs.Always.{given_good}
 use Rattle.accounts.specs.Told.{put_length}
-use Rattle.accounts.specs.Ticks.{taken_by, tells_tick, noted_none, noted_more, kept_at, given_at, early_at}
+use Rattle.accounts.specs.Ticks.{taken_by, tells_tick, noted_none, noted_more, noted_to, kept_at, given_at, early_at}
 use Rattle.accounts.proofs.ticks.ticks.Goals as goal
 
-pub loop-i-init : goal.loop-i-init
-loop-i-init c = noted_none _ _ _ _ _ _ c.requires.3
+pub loop-init : goal.loop-init
+loop-init c = noted_none _ _ _ _ _ _ c.requires.3
 
-pub leaving-x-requires : goal.leaving-x-requires
-leaving-x-requires c =
-    let v = c.loop-i.invariant in
-    (given_good (given_at c.loop-i.i v.state c.requires.0), kept_at c.requires.0 c.requires.1 v, omega arith)
+pub leaving-used-requires : goal.leaving-used-requires
+leaving-used-requires c =
+    let v = c.loop.invariant in
+    (given_good (given_at c.loop.counter v.state c.requires.0), kept_at c.requires.0 c.requires.1 v, omega arith)
 
-pub next-z-requires : goal.next-z-requires
-next-z-requires c = given_at c.loop-i.i c.loop-i.invariant.state c.requires.0
+pub next-requires : goal.next-requires
+next-requires c = given_at c.loop.counter c.loop.invariant.state c.requires.0
 
-pub taken-y-requires : goal.taken-y-requires
-taken-y-requires c =
-    let l = c.loop-i in
+pub taken-used-requires : goal.taken-used-requires
+taken-used-requires c =
+    let l = c.loop in
     let v = l.invariant in
-    let e = c.leaving-x.ensures in
-    let early = early_at c.args.s l.z l.i c.args.n v.state c.loop-i-test.true c.requires.2 in (
-      taken_by (given_good (given_at l.i v.state c.requires.0)) (kept_at c.requires.0 c.requires.1 v) early _ (ap (λ (x : State). x.had) c.next-z.ensures) _ e.tells.stands,
-      omega (arith, c.if-out-used-ge-ROOM.true, e.used_bound, put_length e.tells.put),
+    let e = c.leaving-used.ensures in
+    let early = early_at c.args.s.now l.s l.counter c.args.n v.state c.loop-test.true c.requires.2 in (
+      taken_by (given_good (given_at l.counter v.state c.requires.0)) (kept_at c.requires.0 c.requires.1 v) early _ (ap (λ (x : State). x.had) c.next.ensures) _ e.tells.stands,
+      omega (arith, c.if-out-used-lt-ROOM.false, e.used_bound, put_length e.tells.put),
     )
 
-pub loop-i-preserved : goal.loop-i-preserved
-loop-i-preserved c =
-    let l = c.loop-i in
+pub loop-preserved : goal.loop-preserved
+loop-preserved c =
+    let l = c.loop in
     let v = l.invariant in
-    let e = c.leaving-x.ensures in
-    let f = c.taken-y.ensures in
-    let early = early_at c.args.s l.z l.i c.args.n v.state c.loop-i-test.true c.requires.2 in
-    noted_more _ _ _ _ _ _ l.i v c.loop-i-test.true (omega arith) c.next-z.ensures
-    (tells_tick (given_good (given_at l.i v.state c.requires.0)) (kept_at c.requires.0 c.requires.1 v) early _ (ap (λ (x : State). x.had) c.next-z.ensures) e.tells f.tells)
+    let e = c.leaving-used.ensures in
+    let f = c.taken-used.ensures in
+    let early = early_at c.args.s.now l.s l.counter c.args.n v.state c.loop-test.true c.requires.2 in
+    noted_more _ _ _ _ _ _ l.counter v c.loop-test.true (omega arith) c.next.ensures
+    (tells_tick (given_good (given_at l.counter v.state c.requires.0)) (kept_at c.requires.0 c.requires.1 v) early _ (ap (λ (x : State). x.had) c.next.ensures) e.tells f.tells)
     (omega (arith, e.used_bound, f.used_bound))
+
+pub returns-after-loop : goal.returns-after-loop
+returns-after-loop c = noted_to _ _ _ _ _ _ c.loop.counter c.loop.invariant (λ h. absurd (omega (arith, h, c.loop-test.false)))
+
+pub returns-then-out-used-lt-ROOM : goal.returns-then-out-used-lt-ROOM
+returns-then-out-used-lt-ROOM c = noted_to _ _ _ _ _ _ c.loop.counter c.loop.invariant (λ h. omega (arith, c.if-out-used-lt-ROOM.true))

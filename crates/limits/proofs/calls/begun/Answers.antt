@@ -3,4 +3,4 @@ use Rattle.promises.specs.Always.{given_opening}
 use Rattle.limits.proofs.calls.begun.Goals as goal
 
 pub returns : goal.returns
-returns g c = rw c.begin-a.ensures (given_opening usual_period _)
+returns g c = rw c.schedule_of.ensures (given_opening usual_period _)

@@ -1,6 +1,7 @@
 use Rattle.rules.specs.Calls as calls
 use Rattle.promises.specs.Always.{given_by}
+use Rattle.limits.proofs.Stays.{stays}
 use Rattle.limits.proofs.jobs.arrivals.Goals as goal
 
-pub loop-k-preserved : goal.loop-k-preserved
-loop-k-preserved g c = rw c.arrive-a.ensures (given_by c.loop-k.invariant (calls.arrive 0))
+pub loop-preserved : goal.loop-preserved
+loop-preserved g c = rw c.unwrap_or-s.ensures (stays c.loop.s c.arrive.result c.arrive.ensures (given_by c.loop.invariant (calls.arrive 0)))

@@ -29,11 +29,11 @@ all_late (suc m) h =
     subst (λ (k : ℕ). GivenReading (with_state row_read (idle_to k row_read.state))) e
     (subst (λ (z : State). GivenReading (with_state row_read z)) (rest_steps m row_read.state row_rest (omega arith)) (reading_ticks row_given (suc m) refl (omega arith)))
 
-pub record-h-requires : goal.record-h-requires
-record-h-requires c = rw c.begin.ensures given_fresh
+pub after-headed-requires : goal.after-headed-requires
+after-headed-requires c = rw c.begin.ensures given_fresh
 
-pub record-o-requires : goal.record-o-requires
-record-o-requires c = rw (c.record-h.ensures, c.begin.ensures) (reading_by given_fresh (Head 1 1))
+pub after-r-requires : goal.after-r-requires
+after-r-requires c = rw (c.after-headed.ensures, c.begin.ensures) (reading_by given_fresh (Head 1 1))
 
 pub returns : goal.returns
-returns c = (rw (c.record-o.ensures, c.record-h.ensures, c.begin.ensures) (all_late _ c.requires), refl)
+returns c = (rw (c.after-r.ensures, c.after-headed.ensures, c.begin.ensures) (all_late _ c.requires), refl)

@@ -1,10 +1,13 @@
-use Rattle.std.proofs.Common.{◌-◌, length}
-use Rattle.listing.specs.Turns.{turns}
-use Rattle.listing.specs.Swept.{Sweeping}
+use Rattle.std.proofs.Common.{◌≡◌, false, ◌-◌, length}
+use Rattle.listing.specs.Way.{SweptTo}
 use Rattle.listing.proofs.sweep.sweep.Given as goal
 
-abbrev pub invariant-loop-going : goal.invariant-loop-going
-invariant-loop-going l = Sweeping l.w l.from l.r l.initial.place l.s l.place l.at
+-- the records that were swept so far
+abbrev pub invariant-loop-e : goal.invariant-loop-e
+invariant-loop-e l = record {
+  swept : SweptTo l.w l.from l.initial.p l.at l.p;
+  undone : l.p.done ≡ false;
+}
 
-abbrev pub decreases-loop-going : goal.decreases-loop-going
-decreases-loop-going l = turns l.going (length l.w - l.at)
+abbrev pub decreases-loop-e : goal.decreases-loop-e
+decreases-loop-e l = length l.w - l.at

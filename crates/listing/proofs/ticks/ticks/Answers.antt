@@ -1,52 +1,49 @@
-use Rattle.std.proofs.Common.{◌≡◌, ◌+◌, ◌≤◌, ◌<◌, ◌∙◌, ℕ, arith}
-use Rattle.rules.specs.Limits.{nobody, clock_end}
-use Rattle.rules.specs.Threads.{State}
-use Rattle.rules.specs.Step.{stepped}
-use Rattle.rules.specs.Run.{state_after}
-use Rattle.rules.specs.Calls.{Given}
+use Rattle.std.proofs.Common.{rules, ◌≡◌, ◌<◌, ◌∙◌, arith}
+use Rattle.rules.specs.Limits.{clock_end}
 use Rattle.listing.specs.Listed.{early_at, given_at, clock_next, had_below, line_idle, line_grant, listed_none, same_room, put_listed}
+use Rattle.rules.specs.Calls.{Given}
 use Rattle.listing.proofs.ticks.ticks.Goals as goal
-use Rattle.listing.proofs.ticks.ticks.Goals.{then-b-eq-NOBODY, else-b-eq-NOBODY}
+use Rattle.listing.proofs.ticks.ticks.Goals.{After-next, In_default, in-64, in_default}
 
--- who had the tick is a thread of the table
-below : (s z y : State) (i n : ℕ) → Given s → s.clock.0 + n ≤ clock_end → z ≡ state_after i s → i < n → y ≡ (stepped z).state → (y.had ≡ nobody → ⊥) → y.had < 64
-below s z y i n g t e h next some = had_below z y (given_at i e g) (early_at s z i n e h t) next some
+pub loop-init : goal.loop-init
+loop-init c = listed_none _ _ _ _ c.requires.2
 
-pub loop-i-init : goal.loop-i-init
-loop-i-init c = listed_none _ _ _ _ c.requires.2
+pub next-requires : goal.next-requires
+next-requires c = given_at c.loop.counter c.loop.invariant.state c.requires.0
 
-pub next-z-requires : goal.next-z-requires
-next-z-requires c = given_at c.loop-i.i c.loop-i.invariant.state c.requires.0
+-- the tick comes before the clock's end
+early : (c : After-next) → c.loop.s.clock.0 ≡ clock_end → ⊥
+early c = let l = c.loop in early_at c.args.s.now l.s l.counter c.args.n l.invariant.state c.loop-test.true c.requires.1
+
+given : (c : After-next) → Given c.loop.s
+given c = given_at c.loop.counter c.loop.invariant.state c.requires.0
 
 pub overflow_sub-tick : goal.overflow_sub-tick
-overflow_sub-tick c =
-    let l = c.loop-i in
-    omega (arith, clock_next _ _ (given_at l.i l.invariant.state c.requires.0) (early_at c.args.s l.z l.i c.args.n l.invariant.state c.loop-i-test.true c.requires.1) c.next-z.ensures)
+overflow_sub-tick c = let d = (goal.at.overflow_sub-tick c).After-next in omega (arith, clock_next _ _ (given d) (early d) c.next.ensures)
 
-pub offset_bounds-z-b : goal.offset_bounds-z-b
-offset_bounds-z-b c =
-    let l = c.loop-i in
-    record { fits = omega (arith, below c.args.s l.z c.next-z.result l.i c.args.n c.requires.0 c.requires.1 l.invariant.state c.loop-i-test.true c.next-z.ensures c.if-b-eq-NOBODY.false) }
+-- who had it is a thread of the table
+below : (c : In_default) → c.next.new.s.had < 64
+below c = let d = (goal.at.In_default c).After-next in had_below c.loop.s c.next.new.s (given d) (early d) c.next.ensures (search rules)
 
-pub bounds-z-b : goal.bounds-z-b
-bounds-z-b c =
-    let l = c.loop-i in
-    below c.args.s l.z c.next-z.result l.i c.args.n c.requires.0 c.requires.1 l.invariant.state c.loop-i-test.true c.next-z.ensures c.if-b-eq-NOBODY.false
+pub offset_bounds-s-b : goal.offset_bounds-s-b
+offset_bounds-s-b c = record { fits = omega (arith, below (goal.at.offset_bounds-s-b c).In_default) }
+
+pub bounds-s-b : goal.bounds-s-b
+bounds-s-b c = below (goal.at.bounds-s-b c).In_default
 
 pub overflow_cast-b : goal.overflow_cast-b
-overflow_cast-b c =
-    let l = c.loop-i in
-    record { fits = omega (arith, below c.args.s l.z c.next-z.result l.i c.args.n c.requires.0 c.requires.1 l.invariant.state c.loop-i-test.true c.next-z.ensures c.if-b-eq-NOBODY.false) }
+overflow_cast-b c = record { fits = omega (arith, below (goal.at.overflow_cast-b c).In_default) }
 
-pub loop-i-preserved : goal.loop-i-preserved
-loop-i-preserved c =
-    let l = c.loop-i in
+pub loop-preserved : goal.loop-preserved
+loop-preserved c =
+    let l = c.loop in
     let s = c.args in
-    let y = c.next-z in
-    let g = given_at l.i l.invariant.state c.requires.0 in
-    let e = early_at s.s l.z l.i s.n l.invariant.state c.loop-i-test.true c.requires.1 in
-    let more = put_listed _ y.result g e y.ensures s.out.now s.from s.s s.n l.i l.invariant c.loop-i-test.true (omega (arith, c.if-out-used-ge-LONGEST.true, l.invariant.fits, same_room _ _ s.s s.n l.i l.invariant)) in
-    elim c.if-b-eq-NOBODY.branch [
-      | then-b-eq-NOBODY w ↦ more _ (line_idle _ _ g e y.ensures w.if-b-eq-NOBODY.true) _ _ (w.out-is ∙ w.idle-used.ensures.1) (w.used-is ∙ w.idle-used.ensures.0)
-      | else-b-eq-NOBODY w ↦ more _ (line_grant _ _ g e y.ensures w.if-b-eq-NOBODY.false) _ _ (w.out-is ∙ w.granted-used.ensures.1) (w.used-is ∙ w.granted-used.ensures.0)
+    let y = c.next in
+    let d = (goal.at.loop-preserved c).After-next in
+    let g = given d in
+    let e = early d in
+    let more = put_listed l.s y.new.s g e y.ensures s.out.now s.from s.s.now s.n l.counter l.invariant c.loop-test.true (omega (arith, c.if-out-used-lt-LONGEST.false, l.invariant.fits, same_room _ _ s.s.now s.n l.counter l.invariant)) in
+    elim c.match-s.branch [
+      | in-64 w ↦ more _ (line_idle _ _ g e y.ensures w.in-64.is) _ _ (w.out-is ∙ w.idle-used.ensures.1) (w.used-is ∙ w.idle-used.ensures.0)
+      | in_default w ↦ more _ (line_grant _ _ g e y.ensures (search rules)) _ _ (w.out-is ∙ w.granted-used.ensures.1) (w.used-is ∙ w.granted-used.ensures.0)
     ]

@@ -1,9 +1,6 @@
-use Rattle.std.proofs.Common.{◌-◌}
 use Rattle.listing.specs.Way.{Listed}
 use Rattle.listing.proofs.ticks.ticks.Given as goal
 
-abbrev pub invariant-loop-i : goal.invariant-loop-i
-invariant-loop-i l = Listed l.initial.out l.from l.initial.z l.n l.i l.out l.used l.z
-
-abbrev pub decreases-loop-i : goal.decreases-loop-i
-decreases-loop-i l = l.n - l.i
+-- the ticks so far are listed
+abbrev pub invariant-loop : goal.invariant-loop
+invariant-loop l = Listed l.initial.out l.from l.initial.s l.n l.counter l.out l.used l.s

@@ -1,18 +1,20 @@
-use Rattle.std.proofs.Common.{sym, ◌∙◌, eq-eqb, ne_eqb}
+use Rattle.std.proofs.Common.{sym, ap, ◌∙◌, eq-eqb, ne_eqb}
+use Rattle.std.proofs.lemmas.Result.{err_from_is_err_and}
 use Rattle.rules.specs.Reading.{record_read}
+use Rattle.rules.specs.Refusals.{answer_of}
 use Rattle.windows.specs.Readings.{given_reading}
 use Rattle.reader.specs.Parts.{head_taken}
 use Rattle.reader.proofs.table.head.Goals as goal
 
-pub returns-then-old-ne0 : goal.returns-then-old-ne0
+pub returns-then-r-ne0 : goal.returns-then-r-ne0
 unfolding record_read
-returns-then-old-ne0 c = rw (c.refused.ensures, ne_eqb _ _ c.if-old-ne0.true)
+returns-then-r-ne0 c = rw (ne_eqb _ _ c.if-r-ne0.true)
 
-pub returns-in-Refused : goal.returns-in-Refused
+pub returns-in_err-head : goal.returns-in_err-head
 unfolding record_read
-returns-in-Refused c = rw (c.refused-in-Refused.ensures, eq-eqb _ _ c.if-old-ne0.false, sym c.head-a.ensures ∙ c.in-Refused.is)
+returns-in_err-head c =
+    let p = err_from_is_err_and c.from_residual.result c.from_residual.ensures.1 in
+    rw (p.1, p.2, eq-eqb _ _ c.if-r-ne0.false, sym c.head.ensures ∙ ap answer_of c.in_err-head.was)
 
 pub returns : goal.returns
-returns c =
-    let s = c.args in
-    c.taken.ensures ∙ head_taken s.r s.q s.n ((given_reading c.requires).bare c.if-old-ne0.false) (sym c.head-a.ensures ∙ c.in_default.is)
+returns c = head_taken c.args.r c.args.q c.args.n ((given_reading c.requires).bare c.if-r-ne0.false) (sym c.head.ensures ∙ ap answer_of c.in_ok-head.was)

@@ -1,10 +1,7 @@
-use Rattle.std.proofs.Common.{◌≤◌, ◌-◌, ◌≡◌}
+use Rattle.std.proofs.Common.{◌≡◌}
 use Rattle.rules.specs.Threads.{with_rows}
 use Rattle.rules.specs.Charge.{benefits}
 use Rattle.schedule.proofs.passes.charge.Given as goal
 
 abbrev pub invariant-loop-a : goal.invariant-loop-a
-invariant-loop-a l = (l.a ≤ 16) × (l.z ≡ with_rows l.initial.z (benefits l.own l.initial.z l.a l.initial.z.threads))
-
-abbrev pub decreases-loop-a : goal.decreases-loop-a
-decreases-loop-a l = 16 - l.a
+invariant-loop-a l = l.s ≡ with_rows l.initial.s (benefits l.own l.initial.s l.a l.initial.s.threads)

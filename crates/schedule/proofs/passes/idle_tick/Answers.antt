@@ -1,4 +1,4 @@
-use Rattle.std.proofs.Common.{ap, le_antisymm, arith}
+use Rattle.std.proofs.Common.{ap, le_antisymm}
 use Rattle.lists.specs.MapTo.{map_to}
 use Rattle.rules.specs.Limits.{nobody}
 use Rattle.rules.specs.Threads.{with_rows, idle}
@@ -8,14 +8,17 @@ use Rattle.promises.specs.Tables.{change_none, change_more}
 use Rattle.schedule.proofs.passes.idle_tick.Goals as goal
 
 pub loop-i-init : goal.loop-i-init
-loop-i-init c = (omega arith, change_none idle c.args.s)
+loop-i-init c = change_none idle c.args.s.now
 
 pub loop-i-preserved : goal.loop-i-preserved
-loop-i-preserved c =
-    (omega arith, change_more idle c.args.s c.requires.0 c.loop-i.i c.loop-i-test.true c.loop-i.invariant.1 _ c.at_rest.ensures)
+loop-i-preserved c = change_more idle c.args.s.now c.requires.0 c.loop-i.i c.loop-i-test.true c.loop-i.invariant _ c.at_rest.ensures
+
+pub move_on-requires : goal.move_on-requires
+move_on-requires c = rw c.loop-i.invariant c.requires.1
 
 pub returns : goal.returns
-unfolding idled moved
+unfolding idled
 returns c =
-    rw c.loop-i.invariant.1
-    (ap (λ i. moved (with_rows c.args.s (map_to i idle c.args.s.threads)) nobody) (le_antisymm c.loop-i.invariant.0 c.loop-i-test.false))
+    let s = c.args.s.now in
+    rw (c.move_on.ensures, c.loop-i.invariant)
+    (ap (λ i. moved (with_rows s (map_to i idle s.threads)) nobody) (le_antisymm c.loop-i.auto.i-end c.loop-i-test.false))

@@ -1,7 +1,12 @@
-use Rattle.std.proofs.Common.{eq-eqb}
+use Rattle.std.proofs.Common.{Bool, true, false, not, ◌≡◌, refl, sym, ◌∙◌}
 use Rattle.rules.specs.Step.{stepped}
 use Rattle.schedule.proofs.step.next.Goals as goal
 
-pub returns-then-s-last : goal.returns-then-s-last
+-- what is not unequal is equal
+same : (b : Bool) → not b ≡ false → b ≡ true
+same true e = refl
+same false e = sym e
+
+pub returns-else-ne : goal.returns-else-ne
 unfolding stepped
-returns-then-s-last c = rw (eq-eqb _ _ c.if-s-last.true)
+returns-else-ne c = rw (same _ (sym c.ne.ensures ∙ c.if-ne.false)) refl

@@ -1,41 +1,34 @@
-use Rattle.std.proofs.Common.{◌-◌, refl, sym, ap, ◌∙◌, le_antisymm, add-one, arith, lt-ltb, le-ltb}
-use Rattle.rules.specs.Threads.{State}
-use Rattle.rules.specs.Table.{Done}
+use Rattle.std.proofs.Common.{Err, refl, sym, ap, ◌∙◌, le_antisymm, add-one}
+use Rattle.std.proofs.lemmas.Result.{err_from_is_err_and}
 use Rattle.rules.specs.Step.{stepped}
-use Rattle.rules.specs.Run.{state_after, passed}
+use Rattle.rules.specs.Run.{state_after}
 use Rattle.promises.specs.Always.{given_steps}
 use Rattle.promises.specs.Taken.{steps_early}
+use Rattle.schedule.specs.Until.{passed_is, until_end}
 use Rattle.schedule.proofs.step.pass.Goals as goal
 
-pub returns-then-to-s : goal.returns-then-to-s
-unfolding passed
-returns-then-to-s c = rw (lt-ltb _ _ c.if-to-s.true)
+pub returns-in_err-end : goal.returns-in_err-end
+returns-in_err-end c =
+    let p = err_from_is_err_and c.from_residual.result c.from_residual.ensures.1 in
+    rw (p.1 ∙ ap Err p.2, passed_is c.args.s c.args.to.0, ← c.ticks_until.ensures, c.in_err-end.was) refl
 
-pub returns-then-to-end : goal.returns-then-to-end
-unfolding passed
-returns-then-to-end c = rw (le-ltb _ _ c.if-to-s.false, lt-ltb _ _ c.if-to-end.true)
-
-pub loop-k-init : goal.loop-k-init
+pub loop-init : goal.loop-init
 unfolding state_after
-loop-k-init c = (omega arith, refl)
+loop-init c = refl
 
 -- the tick comes before the clock's end
-pub tick-y-requires : goal.tick-y-requires
-tick-y-requires c =
+pub tick-requires : goal.tick-requires
+tick-requires c =
     let s = c.args.s in
-    let k = c.loop-k.k in
-    rw c.loop-k.invariant.1 (
-      given_steps k c.requires,
-      steps_early k (c.args.to.0 - s.clock.0) s c.loop-k-test.true (omega (arith, c.if-to-s.false, c.if-to-end.false)),
-    )
+    let k = c.loop.counter in
+    let e = until_end s.clock.0 c.args.to.0 c.in_ok-end.end (sym c.in_ok-end.was ∙ c.ticks_until.ensures) in
+    rw c.loop.invariant (given_steps k c.requires, steps_early k c.in_ok-end.end s c.loop-test.true e)
 
-pub loop-k-preserved : goal.loop-k-preserved
+pub loop-preserved : goal.loop-preserved
 unfolding state_after
-loop-k-preserved c =
-    (omega arith, c.tick-y.ensures ∙ ap (λ s. (stepped s).state) c.loop-k.invariant.1 ∙ sym (ap (λ k. state_after k c.args.s) (add-one c.loop-k.k)))
+loop-preserved c = c.tick.ensures ∙ ap (λ s. (stepped s).state) c.loop.invariant ∙ sym (ap (λ k. state_after k c.args.s) (add-one c.loop.counter))
 
 pub returns : goal.returns
-unfolding passed
 returns c =
-    rw (le-ltb _ _ c.if-to-s.false, le-ltb _ _ c.if-to-end.false)
-    (ap (λ (z : State). record { answer = Done; state = z }) (c.loop-k.invariant.1 ∙ ap (λ k. state_after k c.args.s) (le_antisymm c.loop-k.invariant.0 c.loop-k-test.false)))
+    let s = c.args.s in
+    rw (passed_is s c.args.to.0, ← c.ticks_until.ensures, c.in_ok-end.was, c.loop.invariant, le_antisymm c.loop.auto.counter-end c.loop-test.false) refl

@@ -1,0 +1,7 @@
+use Rattle.std.proofs.Common.{◌≡◌, ◌++◌, map, take, drop}
+use Rattle.capi.specs.Crossing.{inside}
+use Rattle.capi.proofs.StateFromRefOutState.from.Given as goal
+
+-- the first i threads stand in their places
+abbrev pub invariant-loop-i : goal.invariant-loop-i
+invariant-loop-i l = l.threads ≡ map inside (take l.i l.s.threads) ++ drop l.i l.initial.threads

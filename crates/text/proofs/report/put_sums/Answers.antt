@@ -1,5 +1,0 @@
-use Rattle.text.proofs.Chain.{and_then}
-use Rattle.text.proofs.report.put_sums.Goals as goal
-
-pub returns : goal.returns
-returns c = and_then c.put_amount-k.ensures (and_then c.put_field-k.ensures c.put_amount.ensures)
