@@ -9,6 +9,7 @@ TABLES = "crates/tables/src/lib.rt"
 TRACE = "crates/trace/src/lib.rt"
 READING_EVENTS = "crates/reader/src/event.rt"
 READING_TABLE = "crates/reader/src/table.rt"
+CALLS = "crates/calls/src/lib.rt"
 LISTING = "crates/listing/src/lib.rt"
 SWEEP = "crates/listing/src/sweep.rt"
 TICKS = "crates/listing/src/ticks.rt"
@@ -165,21 +166,19 @@ ALIKE = {
     ],
     "head-anywhere": [(READING_TABLE, "    if r.table.threads != 0 {\n        return Err(Refusal::NotInItsPlace);\n    }\n", "")],
     "rows-may-miss": [
-        (LISTING, "    if let Err(refusal) = reader::ended(r) {\n        return stop(out, turn, refusal);\n    }\n", ""),
+        (LISTING, "        reader::ended(r)?;\n", ""),
     ],
     "deadline-before-fitting": [
-        (TICKS, "        next(s);\n", "        let y = *s;\n        next(s);\n"),
+        (TICKS, "        lead_on(s);\n", "        let y = *s;\n        lead_on(s);\n"),
         (TICKS, "text::granted(out, used, tick, b as u16, t.app, t.e, t.w)", "text::granted(out, used, tick, b as u16, t.app, y.threads[b].e, t.w)"),
     ],
     "virtual-before-charge": [
-        (TICKS, "        next(s);\n", "        let y = *s;\n        next(s);\n"),
+        (TICKS, "        lead_on(s);\n", "        let y = *s;\n        lead_on(s);\n"),
         (TICKS, "text::granted(out, used, tick, b as u16, t.app, t.e, t.w)", "text::granted(out, used, tick, b as u16, t.app, t.e, y.threads[b].w)"),
     ],
     "refused-at-the-end": [
-        (LISTING, "        Err(refusal) => stop(out, turn, refusal),\n    }\n}\n\n// The ticks",
-         "        Err(refusal) => {\n            p.place += n as u64;\n            stop(out, turn, refusal);\n        }\n    }\n}\n\n// The ticks"),
-        (LISTING, "        Err(refusal) => stop(out, turn, refusal),\n    }\n}\n\n// The next part",
-         "        Err(refusal) => {\n            turn.progress.place += n as u64;\n            stop(out, turn, refusal);\n        }\n    }\n}\n\n// The next part"),
+        (CALLS, "        stop(out, turn, refusal);\n",
+         "        let place = turn.progress.place() + n as u64;\n        turn.written = text::refusal(out, turn.written, refusal as u8, place);\n        turn.progress.finish();\n"),
     ],
     "no-sign": [(TEXT, "        if x.0 < 0 {\n            self.byte(b'-');\n        }\n        self.decimal(", "        self.decimal(")],
     # ---- request 8: what is lost, and who becomes inactive or active
@@ -206,10 +205,10 @@ ALIKE = {
     "one-tick-more-elapsed": [(LINES, "until.0 - c.stretch.since.0;", "until.0 + 1 - c.stretch.since.0;")],
     "lost-taken-away": [(LINES, " + c.lost\n", " - c.lost\n")],
     "open-left-out": [
-        (REPORT, "    let held = accounts::still_open(out, turn.written, &p.reading.table, &p.activities, now);\n", "    let held = turn.written;\n"),
+        (REPORT, "        let held = accounts::still_open(out, at, &self.reading.table, &self.activities, now);\n", "        let held = at;\n"),
     ],
     "report-goes-on": [
-        (REPORT, "        Err(refusal) => return stop(out, turn, refusal),\n    };\n",
-         "        Err(refusal) => {\n            let now = p.reading.state.clock;\n            turn.written = accounts::still_open(out, turn.written, &p.reading.table, &p.activities, now);\n            return stop(out, turn, refusal);\n        }\n    };\n"),
+        (REPORT, "    let next = reader::record(p.reading, e)?;\n",
+         "    let next = match reader::record(p.reading, e) {\n        Ok(next) => next,\n        Err(refusal) => {\n            let now = p.reading.state.clock;\n            turn.written = accounts::still_open(out, turn.written, &p.reading.table, &p.activities, now);\n            return Err(refusal);\n        }\n    };\n"),
     ],
 }

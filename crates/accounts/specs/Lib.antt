@@ -5,3 +5,4 @@ pub mod Rest
 pub mod Ticks
 pub mod Ended
 pub mod Events
+pub mod Quiet

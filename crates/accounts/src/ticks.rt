@@ -11,7 +11,7 @@ use crate::leaving::leaving;
 use crate::lines::all_held;
 use crate::{ROOM, activity};
 use quantities::{Activity, Moment, State, Table};
-use schedule::step::next;
+use schedule::step::lead_on;
 use text::report::How;
 
 // A tick that `had` had, or nobody: it is granted, or cuts short all stretches that hold.
@@ -55,7 +55,7 @@ pub fn ticks(
         }
         let tick = s.clock;
         used = leaving(out, used, t, cs, s);
-        next(s);
+        lead_on(s);
         used = taken(out, used, t, cs, s.had, tick);
     }
     used

@@ -26,8 +26,7 @@ fn next(rt: &impl Print, s: State) -> State
     requires { Given s }
     ensures { Given result }
 {
-    let mut z = s;
-    step::next(&mut z);
+    let z = step::next(s);
     let _ = print!(rt; "next after {}", s.clock.0);
     clock(rt, z.clock);
     z

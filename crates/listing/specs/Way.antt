@@ -1,6 +1,6 @@
 -- What the parts of a call bring.
 use Rattle.std.proofs.Math.Path.{◌≡◌, refl, ap}
-use Rattle.std.specs.Prelude.{Bool, List, ℕ, Option, None, Some, leb, ◌+◌, ◌-◌, ◌≤◌, ◌<◌, length, drop}
+use Rattle.std.specs.Prelude.{Bool, List, ℕ, Option, None, Some, leb, ◌+◌, ◌≤◌, ◌<◌, length}
 use Rattle.std.proofs.Math.Bool.{true, false, cond}
 use Rattle.std.proofs.Common.{arith}
 use Rattle.std.proofs.lemmas.List.Edits.{sets}
@@ -13,16 +13,13 @@ use Rattle.rules.specs.Records as records
 use Rattle.rules.specs.Reading.{Reading, with_state, at_events}
 use Rattle.rules.specs.Input.{GivenReading, end_read}
 use Rattle.rules.specs.Listing.{tick_lines, refusal_line, end_line, ending}
-use Rattle.windows.specs.Advance.{Progress, longest, widest, farthest, stays, move, Advanced}
+use Rattle.windows.specs.Advance.{Progress, longest, Advanced}
 use Rattle.windows.specs.Along.{Along}
 use Rattle.quantities.specs.declared.Turn.{Turn}
 
 -- the answer of a call
 abbrev pub turn_of : Advanced → Turn
 turn_of a = record { taken = a.taken; written = length a.text; progress = a.progress }
-
-pub turn_as : (a : Advanced) (taken written : ℕ) (q : Progress) → a.taken ≡ taken → length a.text ≡ written → a.progress ≡ q → record { taken = taken; written = written; progress = q } ≡ turn_of a
-turn_as a taken written q e f g = rw (← e, ← f, ← g)
 
 -- so many jobs, unless a thread may not have them
 abbrev pub few : ℕ → Option ℕ
@@ -56,20 +53,6 @@ pub record SweptTo (w : List ℕ) (from : ℕ) (p : Progress) (at : ℕ) (q : Pr
   pub takes : from ≤ at
   pub within : at ≤ length w
 
--- ---- a record that stands at a byte of the window
-pub record Stands (w : List ℕ) (from n : ℕ) (e : Record) : Type 0 where
-  pub some : 0 < n
-  pub most : n ≤ widest
-  pub within : from + n ≤ length w
-  pub is : seen_at (drop from w) ≡ Some (e, n)
-
--- ---- a whole record that stands there
-pub record Framed (w : List ℕ) (from kind n : ℕ) : Type 0 where
-  pub is : frame_of (drop from w) ≡ Whole kind n
-  pub least : 4 ≤ n
-  pub most : n ≤ widest
-  pub within : from + n ≤ length w
-
 -- ---- k ticks that were listed
 pub record Listed (out : List ℕ) (from : ℕ) (s : State) (n k : ℕ) (out' : List ℕ) (used : ℕ) (z : State) : Type 0 where
   pub most : k ≤ n
@@ -85,29 +68,9 @@ pub record ListedTo (out : List ℕ) (from : ℕ) (s : State) (n : ℕ) (out' : 
   pub listed : Listed out from s n count out' used z
   pub ended : count < n → length out < used + longest
 
--- ---- a call on its way: the bytes taken and written, and how far the listing has come
-abbrev pub turn_at : ℕ → ℕ → Progress → Turn
-turn_at taken written p = record { taken = taken; written = written; progress = p }
-
 -- .. the listing with the state after ticks
 abbrev pub with_ticks : Progress → State → Progress
 with_ticks p s = record { reading = with_state p.reading s; place = p.place; done = p.done }
-
--- one that can make a move
-pub record Open (w out : List ℕ) (x : Turn) : Type 0 where
-  pub given : GivenReading x.progress.reading
-  pub undone : x.progress.done ≡ false
-  pub near : x.progress.place ≤ farthest
-  pub within : x.taken ≤ length w
-  pub room : x.written + longest ≤ length out
-
--- it is along from x at y
-abbrev pub AlongTo : Bool → List ℕ → List ℕ → Turn → List ℕ → Turn → Type 0
-AlongTo last w out x out' y = Along last w out x.taken x.written x.progress out' y.taken y.written y.progress
-
--- the bytes that are left to it
-abbrev pub left_of : List ℕ → List ℕ → Turn → ℕ
-left_of w out x = length out - x.written + (length w - x.taken)
 
 -- ---- how an input ends, by what reading answers at its end
 module _ (r : Reading) (b : ℕ) where
@@ -126,18 +89,3 @@ module _ (r : Reading) (b : ℕ) where
       go : (t : Bool) → cond t Done (Refused 14) ≡ Refused n → cond t (end_line r.state.clock.0) (refusal_line 14 b) ≡ refusal_line n b
       go true d = let z : ◌≡◌ {A = ℕ} 0 1 = cc in absurd (omega arith)
       go false d = ap (λ (a : Answer). refusal_line (number_of a) b) d
-
--- ---- where a call stands after parts of it
-pub record Stage (last : Bool) (w out : List ℕ) (x : Turn) (out' : List ℕ) (y : Turn) : Type 0 where
-  pub given : GivenReading y.progress.reading
-  pub along : AlongTo last w out x out' y
-
--- ---- a part of a call, after which it goes on, since a byte was taken or written, or ends, where there is no move
-pub record ActedTo (last : Bool) (w out : List ℕ) (x : Turn) (out' : List ℕ) (y : Turn) (goes : Bool) : Type 0 where
-  pub stage : Stage last w out x out' y
-  pub less : goes ≡ true → left_of w out y < left_of w out x
-  pub ends : goes ≡ false → move last (length out - y.written) y.progress (drop y.taken w) ≡ stays
-
--- .. after which it goes on, whether the window is the last or not
-pub record ActedOn (w out : List ℕ) (x : Turn) (out' : List ℕ) (y : Turn) : Type 0 where
-  pub any : (last : Bool) → ActedTo last w out x out' y true

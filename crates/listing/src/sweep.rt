@@ -8,7 +8,7 @@ ghost use Rattle.windows.specs.Plain as plain;
 ghost use Rattle.windows.specs.Plain.{at_once, one_more, jobs_after};
 ghost use Rattle.listing.specs.Way.{few, seen_at, SweptTo};
 
-use crate::FARTHEST;
+use calls::FARTHEST;
 use quantities::{Frame, Moment, Phase, Progress, Record, State, Table, Thread};
 
 // The thread of an event at the moment m, where that is now and there is such a thread.

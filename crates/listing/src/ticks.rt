@@ -5,7 +5,7 @@ ghost use Rattle.rules.specs.Calls.{Given};
 ghost use Rattle.listing.specs.Way.{ListedTo};
 
 use quantities::{State, Table};
-use schedule::step::next;
+use schedule::step::lead_on;
 use text::LONGEST;
 
 // Lists ticks, n at most, while there is room, and leads the schedule through them.
@@ -18,7 +18,7 @@ pub fn ticks(out: &mut [u8], from: usize, s: &mut State, n: u32) -> usize
         if out.len() - used < LONGEST {
             break;
         }
-        next(s);
+        lead_on(s);
         let tick = s.clock.0 - 1;
         used = match s.had {
             Table::NOBODY => text::idle(out, used, tick),

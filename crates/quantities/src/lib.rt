@@ -1,11 +1,11 @@
 // The types of the schedule, and the limits of its table. What stands here computes on amounts alone.
 #![tactic(auto)]
 
-ghost use Rattle.std.specs.Prelude.{◌≡◌, pos, ◌+ℤ◌, ◌-ℤ◌};
+ghost use Rattle.std.specs.Prelude.{◌≡◌, pos, ◌+ℤ◌, ◌-ℤ◌, ◌*ℤ◌};
 ghost use Rattle.std.specs.Int.{w64};
 ghost use Rattle.std.proofs.Common.{SFits};
 
-use std::ops::{Add, Sub};
+use std::ops::{Add, Mul, Sub};
 
 // A moment, or a length of time, in ticks.
 #[repr(C)]
@@ -38,6 +38,18 @@ impl Sub for Amount {
 
     fn sub(self, rhs: Amount) -> Amount {
         Amount(self.0 - rhs.0)
+    }
+}
+
+impl Mul<u32> for Amount {
+    type Output = Amount;
+
+    ghost can_mul = { λ a u. SFits w64 (a.0 *ℤ pos u) };
+
+    ghost mul_gives = { λ a u r. r ≡ record { 0 = a.0 *ℤ pos u } };
+
+    fn mul(self, rhs: u32) -> Amount {
+        Amount(self.0 * rhs as i64)
     }
 }
 

@@ -78,9 +78,13 @@ ahead s (RunTo m) t d = ahead_moment s m d
 ahead s (Drop m i) t d = ahead_moment s m (both_done _ _ d).0
 
 -- the run to an event's moment
-pub passed_at : (s : State) (e : Record) → s.clock.0 ≤ clock_end → before_ticks s e ≡ Done → passed s (moment_of e s.clock).0 ≡ done (state_after (ticks_before s e) s)
+pub passed_at : (s : State) (e : Record) → Ahead s (moment_of e s.clock).0 → passed s (moment_of e s.clock).0 ≡ done (state_after (ticks_before s e) s)
 unfolding passed
-passed_at s e t d = let h = ahead s e t d in rw (le-ltb _ _ h.0, le-ltb _ _ h.1, ticks_at)
+passed_at s e h = rw (le-ltb _ _ h.0, le-ltb _ _ h.1, ticks_at)
+
+-- .. of an event that is not refused before any tick
+pub passed_then : (s : State) (e : Record) → s.clock.0 ≤ clock_end → before_ticks s e ≡ Done → passed s (moment_of e s.clock).0 ≡ done (state_after (ticks_before s e) s)
+passed_then s e t d = passed_at s e (ahead s e t d)
 
 -- ---- the cases of an event
 module _ (r : Reading) (e : Record) where

@@ -9,5 +9,6 @@ pub mod Keeps
 pub mod Turns
 pub mod Events
 pub mod Ends
-pub mod Way
+pub mod Tells
 pub mod Acts
+pub mod Calls

@@ -65,13 +65,22 @@ pub fn step(mut s: State) -> Stepped
 }
 
 // One tick of a state that is lent, in which who had it then stands; at the clock's end nothing changes.
-pub fn next(s: &mut State)
+pub fn lead_on(s: &mut State)
     requires { Given s.old }
     ensures { s.new ≡ (stepped s.old).state }
 {
     if s.clock != Table::CLOCK_END {
         tick(s);
     }
+}
+
+// The state after one tick, in which who had it stands; at the clock's end the state itself.
+pub fn next(mut s: State) -> State
+    requires { Given s }
+    ensures { result ≡ (stepped s).state }
+{
+    lead_on(&mut s);
+    s
 }
 
 // How many ticks lie before the moment `to`; 12, 13.

@@ -19,6 +19,7 @@ use Rattle.events.proofs.arrive.Reads as arrive
 use Rattle.events.proofs.drop_waiting.Reads as drop_waiting
 use Rattle.schedule.proofs.step.step.Reads as step
 use Rattle.schedule.proofs.step.next.Reads as next
+use Rattle.schedule.proofs.step.lead_on.Reads as lead
 use Rattle.schedule.proofs.step.run.Reads as run
 use Rattle.schedule.proofs.step.pass.Reads as pass
 use Rattle.schedule.proofs.look.free_share.Reads as free_share
@@ -75,12 +76,18 @@ step_one κs a r r' s s' p q = one p q
 pub step_asks : (κs : _) (s : State) (b : _) → Given s → step.Asked κs (s, b)
 step_asks κs s b g = g
 
--- the state that is lent
-pub next_one : (κs : _) (a : _) (r r' : _) (s s' : _) → next.Learnt κs a r s → next.Learnt κs a r' s' → (r ≡ r') × (s.0.now ≡ s'.0.now)
-next_one κs a r r' s s' p q = (refl, one p q)
+pub next_one : (κs : _) (a : _) (r r' : _) (s s' : _) → next.Learnt κs a r s → next.Learnt κs a r' s' → r ≡ r'
+next_one κs a r r' s s' p q = one p q
 
-pub next_asks : (κs : _) (s : MutBor State) → Given s.now → next.Asked κs (s, tt)
-next_asks κs s g = g
+pub next_asks : (κs : _) (s : State) (b : _) → Given s → next.Asked κs (s, b)
+next_asks κs s b g = g
+
+-- the state that is lent
+pub lead_one : (κs : _) (a : _) (r r' : _) (s s' : _) → lead.Learnt κs a r s → lead.Learnt κs a r' s' → (r ≡ r') × (s.0.now ≡ s'.0.now)
+lead_one κs a r r' s s' p q = (refl, one p q)
+
+pub lead_asks : (κs : _) (s : MutBor State) → Given s.now → lead.Asked κs (s, tt)
+lead_asks κs s g = g
 
 -- the answer and the lent row
 pub run_one : (κs : _) (a : _) (r r' : _) (s s' : _) → run.Learnt κs a r s → run.Learnt κs a r' s' → (r ≡ r') × (s.1.1.0.now ≡ s'.1.1.0.now)

@@ -5,7 +5,7 @@ use Rattle.std.specs.Prelude.{◌≡◌, ℕ, ◌≤◌, List, None, Some}
 use Rattle.std.proofs.Common.{◌∙◌, arith}
 use Rattle.std.specs.Int.{w64}
 use Rattle.quantities.specs.declared.Amount.{Amount}
-use Rattle.integers.specs.Parts.{Small, small_add, small_sub}
+use Rattle.integers.specs.Parts.{Small, small_add, small_sub, small_times}
 use Rattle.rules.specs.Limits.{max_q}
 use Rattle.rules.specs.Threads.{Thread, State, at, compare}
 use Rattle.promises.specs.Sound.{Sound, RowOk}
@@ -15,7 +15,9 @@ use Rattle.promises.specs.Tables.{leading}
 use Rattle.settled.specs.One.{one}
 use Rattle.quantities.proofs.AmountAdd.add.Reads as add
 use Rattle.quantities.proofs.AmountSub.sub.Reads as sub
+use Rattle.quantities.proofs.AmountMulU32.mul.Reads as times
 use Rattle.quantities.proofs.AmountFromU32.from.Reads as parts
+use Rattle.threads.proofs.amounts.count_of.Reads as count_of
 use Rattle.threads.proofs.amounts.scaled.Reads as scaled
 use Rattle.threads.proofs.thread.inactive.Reads as inactive
 use Rattle.threads.proofs.thread.contends.Reads as contends
@@ -51,6 +53,18 @@ parts_one κs a r r' s s' p q = one p q
 
 pub parts_asks : (κs : _) (a : _) → parts.Asked κs a
 parts_asks κs a = tt
+
+pub times_one : (κs : _) (a : _) (r r' : _) (s s' : _) → times.Learnt κs a r s → times.Learnt κs a r' s' → r ≡ r'
+times_one κs a r r' s s' p q = one p q
+
+pub times_asks : (κs : _) (x : Amount) (u : ℕ) → Small x.0 → u ≤ max_q → times.Asked κs (x, (u, tt))
+times_asks κs x u f g = small_times w64 x.0 u (omega arith) f g
+
+pub count_of_one : (κs : _) (a : _) (r r' : _) (s s' : _) → count_of.Learnt κs a r s → count_of.Learnt κs a r' s' → r ≡ r'
+count_of_one κs a r r' s s' p q = one p q
+
+pub count_of_asks : (κs : _) (x : Thread) → RowOk x → count_of.Asked κs (x.e, tt)
+count_of_asks κs x g = g.e_whole
 
 pub scaled_one : (κs : _) (a : _) (r r' : _) (s s' : _) → scaled.Learnt κs a r s → scaled.Learnt κs a r' s' → r ≡ r'
 scaled_one κs a r r' s s' p q = one p q

@@ -2,7 +2,7 @@
 // and writes to standard output. It only reads, calls and writes.
 #![tactic(auto)]
 
-ghost use Rattle.std.specs.Prelude.{◌-◌, ◌≤◌, length, take, drop, true, ◌≡◌};
+ghost use Rattle.std.specs.Prelude.{◌-◌, ◌≤◌, length, take, drop, true, ◌≡◌, IfSome};
 ghost use Rattle.shell.specs.Shell.{Good, Enough, Ready, opened, stopped, after, StopsOr, Filled, Said, Turned};
 ghost use Rattle.shell.specs.Reached.{Reached};
 
@@ -171,28 +171,29 @@ fn named<T: Telling>(
     rt: &(impl Env + Files + Input + Print + Eprint),
     buf: &mut [u8],
     out: &mut [u8],
-)
+) -> Option<Shell<T>>
     requires { Enough T.Telling (length buf.old) (length out.old) }
+    ensures { IfSome result (λ s. Reached T.Telling s) }
 {
     let mut path = [0u8; 4096];
     let Ok(n) = rt.arg(1, &mut path) else {
         warn::<T>(rt, "the file's name: File name too long");
-        return;
+        return None;
     };
     if path[..n] == [b'-'] {
-        tell::<T>(rt, &mut rt.reader(), buf, out);
-        return;
+        return Some(tell::<T>(rt, &mut rt.reader(), buf, out));
     }
     let Ok(name) = str::from_utf8(&path[..n]) else {
         warn::<T>(rt, "the file's name: it is not UTF-8");
-        return;
+        return None;
     };
     match fs::open(rt, name) {
-        Ok(mut file) => {
-            tell::<T>(rt, &mut file, buf, out);
-        }
+        Ok(mut file) => Some(tell::<T>(rt, &mut file, buf, out)),
         Err(e) => {
-            let _ = eprintln!(rt; "{name}: {e}");
+            if e.kind() != ErrorKind::BrokenPipe {
+                let _ = eprintln!(rt; "{name}: {e}");
+            }
+            None
         }
     }
 }
@@ -203,21 +204,22 @@ fn has_arg(rt: &impl Env, i: usize) -> bool {
     !matches!(rt.arg(i, &mut none), Err(FillError::NotPresent))
 }
 
-// What the program does: it tells of the file that its one argument names, or of standard input.
+// What the program does: it tells of the file that its one argument names, or of standard input, and
+// answers how far it came, where it told at all.
 pub fn serve<T: Telling>(
     rt: &(impl Env + Files + Input + Print + Eprint),
     buf: &mut [u8],
     out: &mut [u8],
-)
+) -> Option<Shell<T>>
     requires { Enough T.Telling (length buf.old) (length out.old) }
+    ensures { IfSome result (λ s. Reached T.Telling s) }
 {
     if !has_arg(rt, 1) {
-        tell::<T>(rt, &mut rt.reader(), buf, out);
-        return;
+        return Some(tell::<T>(rt, &mut rt.reader(), buf, out));
     }
     if has_arg(rt, 2) {
         let _ = eprintln!(rt; "usage: {} [FILE]", T::PROGRAM);
-        return;
+        return None;
     }
-    named::<T>(rt, buf, out);
+    named::<T>(rt, buf, out)
 }

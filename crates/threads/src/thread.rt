@@ -10,7 +10,7 @@ ghost use Rattle.promises.specs.Item3.{deadline_of, compare_parts};
 ghost use Rattle.promises.specs.Remainders.{Parted};
 ghost use Rattle.promises.specs.Tables.{closer_of};
 
-use crate::amounts::scaled;
+use crate::amounts::{count_of, scaled};
 use quantities::{Amount, Deadline, Earliest, Moment, Phase, Thread};
 use std::cmp::Ordering;
 
@@ -89,7 +89,7 @@ pub fn deadline(t: Thread) -> Deadline
     requires { RowOk t }
     ensures { result ≡ deadline_of t }
 {
-    let e = t.e.0 as u64;
+    let e = count_of(t.e);
     let u = t.share as u64;
     Deadline {
         whole: e / u,

@@ -26,7 +26,7 @@ line_some (w ∷ v ∷ ws) = omega (arith, length-append w (bytes " " ++ line (v
 pub refusal_some : (n b : ℕ) → 1 ≤ length (refusal_line n b)
 refusal_some n b = line_some (bytes "refused" ∷ decimal n ∷ bytes "at" ∷ decimal b ∷ [])
 
-ending_some : (r : Reading) (b : ℕ) → 1 ≤ length (ending r b)
+pub ending_some : (r : Reading) (b : ℕ) → 1 ≤ length (ending r b)
 unfolding ending
 ending_some r b = by_test (λ (t : List ℕ). 1 ≤ length t) (at_events r) (λ _. line_some _) (λ _. line_some _)
 

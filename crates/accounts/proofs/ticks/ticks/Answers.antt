@@ -13,8 +13,8 @@ leaving-used-requires c =
     let v = c.loop.invariant in
     (given_good (given_at c.loop.counter v.state c.requires.0), kept_at c.requires.0 c.requires.1 v, omega arith)
 
-pub next-requires : goal.next-requires
-next-requires c = given_at c.loop.counter c.loop.invariant.state c.requires.0
+pub lead_on-requires : goal.lead_on-requires
+lead_on-requires c = given_at c.loop.counter c.loop.invariant.state c.requires.0
 
 pub taken-used-requires : goal.taken-used-requires
 taken-used-requires c =
@@ -22,7 +22,7 @@ taken-used-requires c =
     let v = l.invariant in
     let e = c.leaving-used.ensures in
     let early = early_at c.args.s.now l.s l.counter c.args.n v.state c.loop-test.true c.requires.2 in (
-      taken_by (given_good (given_at l.counter v.state c.requires.0)) (kept_at c.requires.0 c.requires.1 v) early _ (ap (λ (x : State). x.had) c.next.ensures) _ e.tells.stands,
+      taken_by (given_good (given_at l.counter v.state c.requires.0)) (kept_at c.requires.0 c.requires.1 v) early _ (ap (λ (x : State). x.had) c.lead_on.ensures) _ e.tells.stands,
       omega (arith, c.if-out-used-lt-ROOM.false, e.used_bound, put_length e.tells.put),
     )
 
@@ -33,8 +33,8 @@ loop-preserved c =
     let e = c.leaving-used.ensures in
     let f = c.taken-used.ensures in
     let early = early_at c.args.s.now l.s l.counter c.args.n v.state c.loop-test.true c.requires.2 in
-    noted_more _ _ _ _ _ _ l.counter v c.loop-test.true (omega arith) c.next.ensures
-    (tells_tick (given_good (given_at l.counter v.state c.requires.0)) (kept_at c.requires.0 c.requires.1 v) early _ (ap (λ (x : State). x.had) c.next.ensures) e.tells f.tells)
+    noted_more _ _ _ _ _ _ l.counter v c.loop-test.true (omega arith) c.lead_on.ensures
+    (tells_tick (given_good (given_at l.counter v.state c.requires.0)) (kept_at c.requires.0 c.requires.1 v) early _ (ap (λ (x : State). x.had) c.lead_on.ensures) e.tells f.tells)
     (omega (arith, e.used_bound, f.used_bound))
 
 pub returns-after-loop : goal.returns-after-loop

@@ -3,27 +3,27 @@ use Rattle.rules.specs.Limits.{clock_end}
 use Rattle.listing.specs.Listed.{early_at, given_at, clock_next, had_below, line_idle, line_grant, listed_none, same_room, put_listed}
 use Rattle.rules.specs.Calls.{Given}
 use Rattle.listing.proofs.ticks.ticks.Goals as goal
-use Rattle.listing.proofs.ticks.ticks.Goals.{After-next, In_default, in-64, in_default}
+use Rattle.listing.proofs.ticks.ticks.Goals.{After-lead_on, In_default, in-64, in_default}
 
 pub loop-init : goal.loop-init
 loop-init c = listed_none _ _ _ _ c.requires.2
 
-pub next-requires : goal.next-requires
-next-requires c = given_at c.loop.counter c.loop.invariant.state c.requires.0
+pub lead_on-requires : goal.lead_on-requires
+lead_on-requires c = given_at c.loop.counter c.loop.invariant.state c.requires.0
 
 -- the tick comes before the clock's end
-early : (c : After-next) → c.loop.s.clock.0 ≡ clock_end → ⊥
+early : (c : After-lead_on) → c.loop.s.clock.0 ≡ clock_end → ⊥
 early c = let l = c.loop in early_at c.args.s.now l.s l.counter c.args.n l.invariant.state c.loop-test.true c.requires.1
 
-given : (c : After-next) → Given c.loop.s
+given : (c : After-lead_on) → Given c.loop.s
 given c = given_at c.loop.counter c.loop.invariant.state c.requires.0
 
 pub overflow_sub-tick : goal.overflow_sub-tick
-overflow_sub-tick c = let d = (goal.at.overflow_sub-tick c).After-next in omega (arith, clock_next _ _ (given d) (early d) c.next.ensures)
+overflow_sub-tick c = let d = (goal.at.overflow_sub-tick c).After-lead_on in omega (arith, clock_next _ _ (given d) (early d) c.lead_on.ensures)
 
 -- who had it is a thread of the table
-below : (c : In_default) → c.next.new.s.had < 64
-below c = let d = (goal.at.In_default c).After-next in had_below c.loop.s c.next.new.s (given d) (early d) c.next.ensures (search rules)
+below : (c : In_default) → c.lead_on.new.s.had < 64
+below c = let d = (goal.at.In_default c).After-lead_on in had_below c.loop.s c.lead_on.new.s (given d) (early d) c.lead_on.ensures (search rules)
 
 pub offset_bounds-s-b : goal.offset_bounds-s-b
 offset_bounds-s-b c = record { fits = omega (arith, below (goal.at.offset_bounds-s-b c).In_default) }
@@ -38,8 +38,8 @@ pub loop-preserved : goal.loop-preserved
 loop-preserved c =
     let l = c.loop in
     let s = c.args in
-    let y = c.next in
-    let d = (goal.at.loop-preserved c).After-next in
+    let y = c.lead_on in
+    let d = (goal.at.loop-preserved c).After-lead_on in
     let g = given d in
     let e = early d in
     let more = put_listed l.s y.new.s g e y.ensures s.out.now s.from s.s.now s.n l.counter l.invariant c.loop-test.true (omega (arith, c.if-out-used-lt-LONGEST.false, l.invariant.fits, same_room _ _ s.s.now s.n l.counter l.invariant)) in

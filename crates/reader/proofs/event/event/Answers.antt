@@ -10,13 +10,13 @@ use Rattle.rules.specs.Input.{GivenReading}
 use Rattle.rules.specs.Refusals.{Refusal, answer_of, answered, number}
 use Rattle.promises.specs.Always.{given_good, given_steps}
 use Rattle.windows.specs.Readings.{given_reading}
-use Rattle.reader.specs.Parts.{moment_of, passed_at, refused_before, refused_then, taken_then}
+use Rattle.reader.specs.Parts.{moment_of, passed_then, refused_before, refused_then, taken_then}
 use Rattle.reader.proofs.event.event.Goals as goal
 
 -- the ticks before the event's moment are run
 ran : (r : Reading) (e : Record) (m : Moment) (x : Result State Refusal) → GivenReading r → before_ticks r.state e ≡ Done → m ≡ moment_of e r.state.clock
     → answered r.state x ≡ passed r.state m.0 → answered r.state x ≡ done (state_after (ticks_before r.state e) r.state)
-ran r e m x g d h q = q ∙ ap (λ (m : Moment). passed r.state m.0) h ∙ passed_at r.state e (given_good (given_reading g).given).time d
+ran r e m x g d h q = q ∙ ap (λ (m : Moment). passed r.state m.0) h ∙ passed_then r.state e (given_good (given_reading g).given).time d
 
 pub returns-in_err-before_ticks : goal.returns-in_err-before_ticks
 returns-in_err-before_ticks c =
