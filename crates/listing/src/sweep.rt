@@ -77,6 +77,7 @@ pub fn sweep(w: &[u8], from: usize, p: &mut Progress) -> usize
     ensures { SweptTo w.now from p.old result p.new }
 {
     let mut at = from;
+    let mut place = p.place;
     while let Some((e, n)) = look(&w[at..]) {
         let s = &mut p.reading.state;
         let Some(k) = touched(s, e) else {
@@ -86,12 +87,13 @@ pub fn sweep(w: &[u8], from: usize, p: &mut Progress) -> usize
         let Some(jobs) = jobs_after(t, e, s.closed) else {
             break;
         };
-        if p.place > FARTHEST {
+        if place > FARTHEST {
             break;
         }
         s.threads[k] = Thread { jobs, ..t };
-        p.place += n as u64;
+        place += n as u64;
         at += n;
     }
+    p.place = place;
     at
 }

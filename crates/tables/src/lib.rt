@@ -111,6 +111,7 @@ fn started(t: &Table) -> State
 
 // A table with all its rows begins a schedule, or is refused with no schedule; 1, 2, then for each
 // row 3 to 7.
+#[inline(never)] // a call of its own, so that what it holds takes no stack where the answer is handed on
 pub fn begin(t: Table) -> Result<State, Refusal>
     ensures { answered no_schedule result ≡ opening usual_period t }
 {

@@ -9,7 +9,7 @@ use Rattle.windows.specs.Readings.{given_reading}
 use Rattle.listing.specs.Way.{seen_at}
 use Rattle.listing.specs.Swept.{someone_is, few_is, touched_in, sweep_none, steps_on, sweep_more}
 use Rattle.listing.proofs.sweep.sweep.Goals as goal
-use Rattle.listing.proofs.sweep.sweep.Goals.{In-Some, In-Some-touched}
+use Rattle.listing.proofs.sweep.sweep.Goals.{In-Some, In-Some-touched, in-Some+in_default-touched, in-Some+in-Some-touched+in_default-jobs_after, in-Some+in-Some-touched+in-Some-jobs_after+then-place-gt-FARTHEST, in_default}
 
 pub loop-e-init : goal.loop-e-init
 loop-e-init c = record { swept = sweep_none _ _ _ c.requires.0 c.requires.2; undone = c.requires.1 }
@@ -48,7 +48,7 @@ bounds-s-k-in-Some c = (there (goal.at.bounds-s-k-in-Some c).In-Some-touched).0
 pub loop-e-smaller : goal.loop-e-smaller
 loop-e-smaller c =
     let l = c.loop-e in
-    let h = steps_on _ _ _ l.at l.p l.invariant.swept c.in-Some.e c.in-Some.n (seen (goal.at.loop-e-smaller c).In-Some) in
+    let h = steps_on _ _ _ l.at _ l.invariant.swept c.in-Some.e c.in-Some.n (seen (goal.at.loop-e-smaller c).In-Some) in
     omega (arith, h.0, h.1)
 
 pub loop-e-preserved : goal.loop-e-preserved
@@ -57,12 +57,16 @@ loop-e-preserved c =
     let t = someone_is _ c.in-Some-touched.ensures in
     let j = few_is _ c.in-Some-jobs_after.ensures in
     record {
-      swept = sweep_more _ _ _ l.at l.p l.invariant.swept c.in-Some.e c.in-Some.n (seen (goal.at.loop-e-preserved c).In-Some) l.invariant.undone c.if-p-gt-FARTHEST.false _ _ t.0 t.1 j.0 j.1;
+      swept = sweep_more _ _ _ l.at _ l.invariant.swept c.in-Some.e c.in-Some.n (seen (goal.at.loop-e-preserved c).In-Some) l.invariant.undone c.if-place-gt-FARTHEST.false _ _ t.0 t.1 j.0 j.1;
       undone = l.invariant.undone;
     }
 
-pub returns-in_default-jobs_after : goal.returns-in_default-jobs_after
-returns-in_default-jobs_after c = c.loop-e.invariant.swept
-
-pub returns-then-p-gt-FARTHEST : goal.returns-then-p-gt-FARTHEST
-returns-then-p-gt-FARTHEST c = c.loop-e.invariant.swept
+pub returns : goal.returns
+returns c =
+    let v = c.loop-e.invariant.swept in
+    elim c.match-look.branch [
+      | in-Some+in_default-touched w ↦ rw w.p-is v
+      | in-Some+in-Some-touched+in_default-jobs_after w ↦ rw w.p-is v
+      | in-Some+in-Some-touched+in-Some-jobs_after+then-place-gt-FARTHEST w ↦ rw w.p-is v
+      | in_default w ↦ rw w.p-is v
+    ]
