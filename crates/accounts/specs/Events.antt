@@ -39,11 +39,11 @@ accepted (Refused n) = false
 refused_not : {X : Type 0} (n : ℕ) → Refused n ≡ Done → X
 refused_not n e = absurd (true_false (sym (ap accepted e)))
 
-record Completes (s : State) (k : ℕ) : Type 0 where
+pub record Completes (s : State) (k : ℕ) : Type 0 where
   pub inside : k < s.count
   pub leads : Leads s.count s.threads k
 
-completes : {s : State} (k : ℕ) → Good s → (completion s k).answer ≡ Done → Completes s k
+pub completes : {s : State} (k : ℕ) → Good s → (completion s k).answer ≡ Done → Completes s k
 completes {s} k g =
     by_completion s (λ (r : Answered). r.answer ≡ Done → Completes s k) k (λ n e. refused_not n e)
     (λ h c d e _. record { inside = h; leads = rw e (g.head_start c d (rw (← e) h)) })
@@ -117,7 +117,7 @@ module _ {t : Table} {s : State} {cs : List Activity} (good : Good s) (kept : Ke
     completed_ends z h p q = tells_then_retiring (rw retires (tells_rest k now (freed now x) fate (rw (lost_is z h) at p) (rw (lost_is z h) at q)))
 
 -- ---- an arrival that is accepted
-arrives : (s : State) (k : ℕ) → (arrival s k).answer ≡ Done → k < s.count
+pub arrives : (s : State) (k : ℕ) → (arrival s k).answer ≡ Done → k < s.count
 arrives s k = by_arrival s (λ (r : Answered). r.answer ≡ Done → k < s.count) k (λ n e. refused_not n e) (λ h _ _. h)
 
 -- its thread is one of the table's

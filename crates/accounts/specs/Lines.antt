@@ -24,12 +24,12 @@ pub record Fair (t : Table) (a : ℕ) : Type 0 where
   pub few : t.threads ≤ max_threads
   pub most : share_of a t ≤ max_q
 
-share_more : (a : ℕ) (rows : List Row) (i : ℕ) → share_to a rows (i + 1) ≡ share_to a rows i + cond (eqb (row_at rows i).app a) (row_at rows i).share 0
+pub share_more : (a : ℕ) (rows : List Row) (i : ℕ) → share_to a rows (i + 1) ≡ share_to a rows i + cond (eqb (row_at rows i).app a) (row_at rows i).share 0
 unfolding share_to
 share_more a rows i = ap (λ k. share_to a rows k) (add-one i)
 
 -- what is summed so far is at most the whole
-share_le : (a : ℕ) (rows : List Row) (i n : ℕ) → i ≤ n → share_to a rows i ≤ share_to a rows n
+pub share_le : (a : ℕ) (rows : List Row) (i n : ℕ) → i ≤ n → share_to a rows i ≤ share_to a rows n
 unfolding share_to
 share_le a rows i zero h = rw (zero_only i h) (omega arith)
   where
@@ -116,7 +116,7 @@ held_lines t how m cs zero = []
 held_lines t how m cs (suc a) = held_lines t how m cs a ++ held_line t how m a (activity_at cs a)
 
 module _ (t : Table) (how : How) (m : ℕ) (cs : List Activity) (a : ℕ) where
-  held_more : held_lines t how m cs a ++ held_line t how m a (activity_at cs a) ≡ held_lines t how m cs (a + 1)
+  pub held_more : held_lines t how m cs a ++ held_line t how m a (activity_at cs a) ≡ held_lines t how m cs (a + 1)
   unfolding held_lines
   held_more = ap (λ k. held_lines t how m cs k) (sym (add-one a))
 

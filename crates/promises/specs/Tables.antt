@@ -135,7 +135,7 @@ module _ (p : Thread → Bool) (xs : List Thread) (i : ℕ) where
     pub lead_past : p (at xs i) ≡ false → Lead p xs (i + 1) o
     lead_past e = l ∙ ap (led xs) (sym (next_is ∙ rw e refl))
 
-    module _ (few : i < 64) (ok : (k : ℕ) → k < i + 1 → RowOk (at xs k)) where
+    module _ (ok : (k : ℕ) → k < i + 1 → RowOk (at xs k)) where
       pub lead_parted : IfSome o (λ x. Parted x.deadline)
       lead_parted = rw l (go (eqb (earliest p i xs) nobody) refl)
         where
@@ -145,7 +145,7 @@ module _ (p : Thread → Bool) (xs : List Thread) (i : ℕ) where
           go false q = parted_is (ok _ (omega (arith, (earliest_in p i xs (eqb-false _ nobody q)).0))) refl
 
       -- one that passes leads or does not
-      turn_is : p (at xs i) ≡ true → earliest p (i + 1) xs ≡ cond (leads_of (deadline_of (at xs i)) o) i (earliest p i xs)
+      pub turn_is : p (at xs i) ≡ true → earliest p (i + 1) xs ≡ cond (leads_of (deadline_of (at xs i)) o) i (earliest p i xs)
       turn_is e = next_is ∙ rw e (go (eqb b nobody) refl) ∙ sym (ap (λ o. cond (leads_of (deadline_of (at xs i)) o) i b) l)
         where
           b : ℕ
@@ -157,8 +157,8 @@ module _ (p : Thread → Bool) (xs : List Thread) (i : ℕ) where
           go false q = ap (λ t. cond t i b) (sym (parts_sooner (ok i (omega arith)) (ok b (omega (arith, (earliest_in p i xs (eqb-false b nobody q)).0))) refl refl))
 
       -- .. and the earlier of the two is the earliest so far
-      pub lead_next : p (at xs i) ≡ true → Lead p xs (i + 1) (closer_of o (leading xs i))
-      lead_next e = go (leads_of (deadline_of (at xs i)) o) refl
+      pub lead_next : i < 64 → p (at xs i) ≡ true → Lead p xs (i + 1) (closer_of o (leading xs i))
+      lead_next few e = go (leads_of (deadline_of (at xs i)) o) refl
         where
           go : (t : Bool) → leads_of (deadline_of (at xs i)) o ≡ t → cond t (Some (leading xs i)) o ≡ led xs (earliest p (i + 1) xs)
           go true q = sym (ap (led xs) (turn_is e ∙ ap (λ t. cond t i (earliest p i xs)) q) ∙ ap (λ n. cond n None (Some (leading xs i))) (ne_eqb i nobody (λ z. omega arith)))
@@ -205,7 +205,7 @@ module _ (xs : List Thread) (i : ℕ) (best : List (Option Earliest)) (l : Leads
         go : (a : ℕ) → a < 16 → Dec (a ≡ app) → Lead (active_in a) xs (i + 1) (get_or (set best app x) a None)
         go a m (yes q) = subst (λ a. Lead (active_in a) xs (i + 1) (get_or (set best app x) a None)) (sym q)
             (rw (get_or-set_same best app x None (omega (arith, l.long)))
-            (lead_next (active_in app) xs i (l.each app k) few ok (rw (e, eq-eqb (at xs i).app app (sym own)) refl)))
+            (lead_next (active_in app) xs i (l.each app k) ok few (rw (e, eq-eqb (at xs i).app app (sym own)) refl)))
         go a m (no n) = rw (get_or-set_other best app a x None n) (lead_past (active_in a) xs i (l.each a m) (elsewhere a n))
 
 -- ---- one turn of the handing out

@@ -41,7 +41,7 @@ none true = refl
 none false = refl
 
 -- no tick is due for a head or a row, so the place of events decides
-due_at : (r : Reading) (e : Record) → cond (at_events r) (due_as (before_ticks r.state e) (ticks_before r.state e)) 0 ≡ ticks_due r e
+pub due_at : (r : Reading) (e : Record) → cond (at_events r) (due_as (before_ticks r.state e) (ticks_before r.state e)) 0 ≡ ticks_due r e
 unfolding ticks_due before_ticks
 due_at r (Head q n) = none (at_events r) ∙ sym (none (at_head r))
 due_at r (Row x) = none (at_events r) ∙ sym (none (at_rows r))

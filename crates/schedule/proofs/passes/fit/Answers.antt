@@ -86,7 +86,7 @@ closer-requires c =
     let v = c.loop-i.invariant in
     let a = (it_okay (goal.at.closer-requires c).In-loop-i).app_max in (
       parted_is (t_ok g i h v.fit c.args.free.now c.requires.1 c.fit_one-t.result c.fit_one-t.ensures) c.deadline.ensures,
-      lead_parted (active_in _) (fitted c.args.s.now).threads i (v.led.each _ a) (few g i h) (seen_ok g i h),
+      lead_parted (active_in _) (fitted c.args.s.now).threads i (v.led.each _ a) (seen_ok g i h),
     )
 
 pub bounds-best-a-then-is_active : goal.bounds-best-a-then-is_active
@@ -99,7 +99,7 @@ closer-chosen-requires c =
     let h = c.loop-i-test.true in
     let v = c.loop-i.invariant in (
       parted_is (t_ok g i h v.fit c.args.free.now c.requires.1 c.fit_one-t.result c.fit_one-t.ensures) c.deadline.ensures,
-      lead_parted contends (fitted c.args.s.now).threads i v.first (few g i h) (seen_ok g i h),
+      lead_parted contends (fitted c.args.s.now).threads i v.first (seen_ok g i h),
     )
 
 -- who is not active does not contend
@@ -126,7 +126,7 @@ loop-i-preserved c =
     elim c.if-is_active.branch [
       | then-is_active+then-contends w ↦ record {
         fit = s;
-        first = rw (w.chosen-is, w.closer-chosen.ensures, w.deadline.ensures, t) (lead_next contends xs i v.first n ok (sym (w.contends.ensures ∙ ap contends t) ∙ w.if-contends.true));
+        first = rw (w.chosen-is, w.closer-chosen.ensures, w.deadline.ensures, t) (lead_next contends xs i v.first ok n (sym (w.contends.ensures ∙ ap contends t) ∙ w.if-contends.true));
         led = rw (w.best-is, w.closer.ensures, w.deadline.ensures, t) (leads_next xs i c.loop-i.best v.led n ok _ a o (is ∙ w.if-is_active.true));
       }
       | then-is_active+else-contends w ↦ record {

@@ -12,7 +12,7 @@ pub closer-best-requires : goal.closer-best-requires
 closer-best-requires c =
     let g = c.requires.0 in (
       parted_is (g.ok c.loop-i.i c.loop-i-test.true) c.deadline.ensures,
-      lead_parted (takes c.args.x) c.args.s.threads c.loop-i.i c.loop-i.invariant (omega (arith, g.few)) (λ k h. g.ok k (omega arith)),
+      lead_parted (takes c.args.x) c.args.s.threads c.loop-i.i c.loop-i.invariant (λ k h. g.ok k (omega arith)),
     )
 
 pub loop-i-preserved : goal.loop-i-preserved
@@ -24,6 +24,6 @@ loop-i-preserved c =
     let l = c.loop-i.invariant in
     let e = sym c.can_take.ensures in
     elim c.if-can_take.branch [
-      | then-can_take w ↦ rw (w.best-is, w.closer-best.ensures, w.deadline.ensures) (lead_next p xs i l (omega (arith, g.few)) (λ k h. g.ok k (omega arith)) (e ∙ w.if-can_take.true))
+      | then-can_take w ↦ rw (w.best-is, w.closer-best.ensures, w.deadline.ensures) (lead_next p xs i l (λ k h. g.ok k (omega arith)) (omega (arith, g.few)) (e ∙ w.if-can_take.true))
       | else-can_take w ↦ rw w.best-is (lead_past p xs i l (e ∙ w.if-can_take.false))
     ]
