@@ -87,13 +87,16 @@ pub fn input(s: &[u8]) -> InputRead
         match trace::frame(&s[at..]) {
             Frame::Ended => break ended(&reading),
             Frame::Cut => break Err(Refusal::CutShort),
-            Frame::Whole(kind, n) => match read(reading, kind, &s[at + 4..at + n]) {
-                Ok(next) => {
-                    reading = next;
-                    at += n;
+            Frame::Whole(kind, n) => {
+                let body = &s[at + 4..at + n];
+                match read(reading, kind, body) {
+                    Ok(next) => {
+                        reading = next;
+                        at += n;
+                    }
+                    Err(e) => break Err(e),
                 }
-                Err(e) => break Err(e),
-            },
+            }
         }
     };
     InputRead {

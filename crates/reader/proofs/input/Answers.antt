@@ -26,14 +26,14 @@ loop-reading-init c =
     let s = c.args.s.now in
     (omega arith, subst GivenReading (sym c.begin-reading.ensures) given_fresh, ap (λ (r : Reading). read_rest r 0 s) c.begin-reading.ensures ∙ sym (input_rest s))
 
-pub slice_bounds-read-count : goal.slice_bounds-read-count
-slice_bounds-read-count c = omega (arith, inside _ _ c.in-Whole.ensures.value c.loop-reading.invariant.0)
+pub slice_bounds-body-count : goal.slice_bounds-body-count
+slice_bounds-body-count c = omega (arith, inside _ _ c.in-Whole.ensures.value c.loop-reading.invariant.0)
 
-pub slice_bounds-read-start : goal.slice_bounds-read-start
-slice_bounds-read-start c = omega (arith, inside _ _ c.in-Whole.ensures.value c.loop-reading.invariant.0)
+pub slice_bounds-body-start : goal.slice_bounds-body-start
+slice_bounds-body-start c = omega (arith, inside _ _ c.in-Whole.ensures.value c.loop-reading.invariant.0)
 
-pub slice_bounds-read-end : goal.slice_bounds-read-end
-slice_bounds-read-end c = omega (arith, inside _ _ c.in-Whole.ensures.value c.loop-reading.invariant.0)
+pub slice_bounds-body-end : goal.slice_bounds-body-end
+slice_bounds-body-end c = omega (arith, inside _ _ c.in-Whole.ensures.value c.loop-reading.invariant.0)
 
 pub loop-reading-smaller : goal.loop-reading-smaller
 loop-reading-smaller c = omega (arith, inside _ _ c.in-Whole.ensures.value c.loop-reading.invariant.0)
